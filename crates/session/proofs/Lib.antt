@@ -10,3 +10,11 @@ pub mod Steps
 pub mod Moving
 pub mod Working
 pub mod Asking
+pub mod Settling
+pub mod Rows
+pub mod Onward
+pub mod Stepping
+pub mod Looking
+pub mod Starting
+pub mod Histories
+pub mod Promised

@@ -21,9 +21,13 @@ pub record View (S : Type 0) : Type 0 where
 abbrev pub view : {S : Type 0} → Session S → View S
 view s = record { states = now (s .states); rows = now (s .rows); plain = s .record }
 
+-- the number of places that two lists give a session
+abbrev pub room : {S : Type 0} → List S → List Row → ℕ
+room states rows = min (min (length states) (length rows)) 4096
+
 -- the number of places that a session can use
 abbrev pub places : {S : Type 0} → View S → ℕ
-places v = min (min (length (v .states)) (length (v .rows))) 4096
+places v = room (v .states) (v .rows)
 
 -- the row at a place, if there is a place
 abbrev pub row-at : List Row → Option ℕ → Option Row

@@ -1,6 +1,7 @@
 //! A session searches for a strong plan over a book, unit by unit, in two lists that the caller lends.
 
 mod ask;
+mod calls;
 mod expand;
 mod lists;
 mod plain;
@@ -8,6 +9,7 @@ mod stops;
 mod sweep;
 mod work;
 
+pub use calls::Step;
 pub use lists::Session;
 pub use plain::Progress;
 pub use plain::Record;
@@ -15,3 +17,6 @@ pub use plain::Row;
 pub use plain::Standing;
 pub use plain::Walk;
 pub use stops::AskStop;
+pub use stops::CarryStop;
+pub use stops::StartStop;
+pub use stops::StepStop;
