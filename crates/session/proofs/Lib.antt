@@ -18,3 +18,4 @@ pub mod Looking
 pub mod Starting
 pub mod Histories
 pub mod Promised
+pub mod Walking

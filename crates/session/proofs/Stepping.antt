@@ -19,10 +19,10 @@ use Rattle.planning.specs.Ranks.{Ranked, Act-given}
 use Rattle.planning.proofs.Tests.{iff, clash}
 use Rattle.planning.proofs.Within.{ranked-alike, one-rank}
 use Rattle.session.specs.ClosedForm.{progress, known}
-use Rattle.session.specs.Views.{View, places}
+use Rattle.session.specs.Views.{View, places, act-in}
 use Rattle.session.specs.Stops.{step-number}
 use Rattle.session.specs.Calls.{Walk-kept}
-use Rattle.session.specs.Walks.{Post, Carries, act-in, step-at, step-case, Moved, Step-kept}
+use Rattle.session.specs.Walks.{Post, Carries, step-at, step-case, Moved, Step-kept}
 use Rattle.session.specs.Histories.{Event}
 use Rattle.session.specs.Promise.{Trail, trail, step-owes, Step-right}
 use Rattle.session.proofs.Settling.{Settled, settled-from}

@@ -31,3 +31,8 @@ abbrev pub carry-number : {A : Type 0} → Result A CarryStop → ℕ
 carry-number (Ok _) = 0
 carry-number (Err CarryStop.NotReady) = 15
 carry-number (Err CarryStop.NotApplicable) = 16
+
+-- a step that its bench refuses is refused for the same reason
+abbrev pub step-stop : CarryStop → StepStop
+step-stop CarryStop.NotReady = StepStop.NotReady
+step-stop CarryStop.NotApplicable = StepStop.NotApplicable

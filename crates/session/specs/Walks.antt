@@ -22,7 +22,7 @@ use Rattle.session.specs.declared.stops.CarryStop.{CarryStop}
 use Rattle.session.specs.declared.calls.Step.{Step}
 use Rattle.session.specs.declared.calls.Step.the-variants.{Goal, Acted}
 use Rattle.session.specs.ClosedForm.{progress, known, known-rows}
-use Rattle.session.specs.Views.{View, places}
+use Rattle.session.specs.Views.{View, places, act-in}
 use Rattle.session.specs.Stops.{step-number}
 use Rattle.session.specs.Calls.{Stands, row-of, ask-answer}
 
@@ -46,11 +46,6 @@ start-answer (Err AskStop.Working) = Err StartStop.Working
 start-answer (Err AskStop.Full) = Err StartStop.Full
 start-answer (Err AskStop.Unlisted) = Err StartStop.Unlisted
 start-answer (Ok r) = ranked-answer (r .rank)
-
--- the act that a row gives, if there is a row
-abbrev pub act-in : Option Row → Option ℕ
-act-in None = None
-act-in (Some row) = row .act
 
 -- all of a session but its walk is as it was
 pub record Only-walk {S : Type 0} (v v′ : View S) : Type 0 where

@@ -1,14 +1,17 @@
 //! A session searches for a strong plan over a book, unit by unit, in two lists that the caller lends.
 
 mod ask;
+mod bench;
 mod calls;
 mod expand;
 mod lists;
 mod plain;
 mod stops;
 mod sweep;
+mod walk;
 mod work;
 
+pub use bench::Bench;
 pub use calls::Step;
 pub use lists::Session;
 pub use plain::Progress;
@@ -20,3 +23,4 @@ pub use stops::AskStop;
 pub use stops::CarryStop;
 pub use stops::StartStop;
 pub use stops::StepStop;
+pub use stops::StepStopFromCarry;

@@ -1,5 +1,8 @@
 //! Why a call was refused.
 
+ghost use mathlib.Core.Path.{_≡_};
+ghost use Rattle.session.specs.Stops.{step-stop};
+
 /// Why an ask was refused.
 #[derive(Clone, Copy)]
 pub enum AskStop {
@@ -44,4 +47,16 @@ pub enum CarryStop {
     NotReady,
     /// The act is not applicable in the bench's state.
     NotApplicable,
+}
+
+/// A step is refused where its bench refuses to carry the act out, for the same reason.
+pub impl From<CarryStop> for StepStop as StepStopFromCarry {
+    ghost converts = { λ e r. r ≡ step-stop e };
+
+    fn from(value: CarryStop) -> StepStop {
+        match value {
+            CarryStop::NotReady => StepStop::NotReady,
+            CarryStop::NotApplicable => StepStop::NotApplicable,
+        }
+    }
 }
