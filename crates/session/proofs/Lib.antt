@@ -19,3 +19,5 @@ pub mod Starting
 pub mod Histories
 pub mod Promised
 pub mod Walking
+pub mod Lending
+pub mod Replaying

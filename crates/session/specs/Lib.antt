@@ -5,6 +5,7 @@ pub mod Calls
 pub mod Walks
 pub mod Histories
 pub mod Promise
+pub mod Replays
 pub mod Joins
 pub mod Judging
 pub mod Units

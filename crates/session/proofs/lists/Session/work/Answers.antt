@@ -3,6 +3,7 @@ use native.Mathlib.Omega.{arith}
 use Prim.Native.Nat.{_+_, _≤_}
 use Rattle.session.specs.Views.{view}
 use Rattle.session.proofs.Working.{went-more, went-idle, worked, works-true, works-false}
+use Rattle.session.proofs.Lending.{lists-on}
 use Rattle.session.proofs.lists.Session.work.Needs as need
 
 pub returns-then-not-working : need.returns-then-not-working
@@ -10,7 +11,7 @@ returns-then-not-working g c =
     let m = g .B·Book .meaning (c .args .book .now) in
     let v = view (c .args .self .now) in
     let w = view (c .loop-done .self) in
-    worked m (c .args .quota) v w (went-idle m (c .loop-done .done) (c .args .quota) v w (c .loop-done .inv .1) (c .loop-done .inv .0) (works-false (w .plain .progress .standing) (sym (c .if-not-working .ensures tt))))
+    record { lent = c .loop-done .inv .0; worked = worked m (c .args .quota) v w (went-idle m (c .loop-done .done) (c .args .quota) v w (c .loop-done .inv .1 .1) (c .loop-done .inv .1 .0) (works-false (w .plain .progress .standing) (sym (c .if-not-working .ensures tt)))) }
 
 pub loop-done-again : need.loop-done-again
 loop-done-again g c =
@@ -18,4 +19,4 @@ loop-done-again g c =
     let v = view (c .args .self .now) in
     let w = view (c .loop-done .self) in
     let l : c .loop-done .done + 1 ≤ c .args .quota = omega arith in
-    (went-more m (c .loop-done .done) v w (view (c .unit .last .self)) (c .loop-done .inv .0) (works-true (w .plain .progress .standing) (sym (c .if-not-working .ensures tt))) (c .unit .ensures), l)
+    (lists-on (c .args .self .now) (c .loop-done .self) (c .unit .last .self) (c .loop-done .inv .0) (c .unit .ensures .lent), (went-more m (c .loop-done .done) v w (view (c .unit .last .self)) (c .loop-done .inv .1 .0) (works-true (w .plain .progress .standing) (sym (c .if-not-working .ensures tt))) (c .unit .ensures .moves), l))
