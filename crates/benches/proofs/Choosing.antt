@@ -1,12 +1,12 @@
 -- What a script bench makes of its next byte. Assumes nothing.
 use mathlib.Core.Path.{_≡_, refl, sym, ap, ap₂, subst, _∙_}
-use mathlib.Core.Bool.{Bool, false}
+use mathlib.Core.Bool.{Bool, true, cond}
 use mathlib.Core.Logic.{inl, inr}
 use mathlib.Core.List.{List, [], _∷_, _++_, List·Memᴰ, List·Memᴰ·head, List·Memᴰ·tail}
 use Prim.Native.Nat.{ℕ, zero, suc, _+_, _-_, _%_, _≤_, _<_, min}
 use native.Mathlib.Nat.{mod-lt}
 use native.Mathlib.Omega.{arith}
-use lib.Dec.{T, ltb}
+use lib.Dec.{ltb}
 use lib.ListN.{length, take, drop, set, getD}
 use Rattle.std.specs.shelf.Maps.{nth}
 use Rattle.std.proofs.shelf.Maps.{nth-getD}
@@ -20,7 +20,7 @@ use Rattle.planning.specs.Ranks.{some-of}
 use Rattle.planning.proofs.Tests.{holds}
 use Rattle.planning.proofs.Lists.{none-some}
 use Rattle.session.specs.declared.stops.CarryStop.{CarryStop}
-use Rattle.session.specs.Walks.{Carries}
+use Rattle.session.specs.Walks.{Post, carry-owes, Carried}
 use Rattle.benches.specs.Scripts.{post, answer-by, leaves-by}
 
 pub ok-refuses : (e : CarryStop) → _≡_ {A = Result (Unit {0}) CarryStop} (Ok tt) (Err e) → ⊥
@@ -44,6 +44,10 @@ module _ {S : Type 0} where
       let z : getD (p ∷ ps) (x % length (p ∷ ps)) p ≡ o = cc in
       ap (λ y. record { state = y; bytes = xs }) z
 
+  some-there : (os : List S) (i : ℕ) (o : S) → nth os i ≡ Some o → some-of os ≡ true
+  some-there [] i o e = absurd (let z : _≡_ {A = ℕ} 0 1 = cc in omega arith)
+  some-there (p ∷ ps) i o e = refl
+
   no-outcome : (os : List S) → length os ≡ 0 → os ≡ []
   no-outcome [] e = refl
   no-outcome (p ∷ ps) e = absurd (omega arith)
@@ -66,10 +70,13 @@ module _ {S : Type 0} (m : Meaning S) (law : Lawful m) (s : S) (a : ℕ) (cs : L
   abbrev left : List ℕ
   left = drop next cs
 
+  abbrev here : Post S
+  here = post (record { state = s; bytes = left })
+
   -- no byte remains
   module _ (h : 64 ≤ next) where
-    pub none-left : some-of left ≡ false
-    none-left = ap some-of (spent cs next long h)
+    pub spent-carried : Carried m here a 15 here
+    spent-carried = record { number-is = sym (ap (λ x. cond x (cond (some-of os) 0 16) 15) (ap some-of (spent cs next long h))); leaves = refl }
 
     pub spent-answer : Err CarryStop.NotReady ≡ answer-by left os
     spent-answer = ap (λ xs. answer-by xs os) (sym (spent cs next long h))
@@ -85,13 +92,19 @@ module _ {S : Type 0} (m : Meaning S) (law : Lawful m) (s : S) (a : ℕ) (cs : L
     abbrev rest : List ℕ
     rest = drop (next + 1) cs
 
-    pub ready : T (some-of left)
-    ready = holds (some-of left) (ap some-of (ahead cs next long h))
+    ready : some-of left ≡ true
+    ready = ap some-of (ahead cs next long h)
+
+    number-when : (k : ℕ) → cond (some-of os) 0 16 ≡ k → k ≡ carry-owes m here a
+    number-when k e = sym (ap (λ x. cond x (cond (some-of os) 0 16) 15) ready ∙ e)
 
     -- there is no outcome
     module _ (e : length os ≡ 0) where
-      pub none-there : os ≡ []
+      none-there : os ≡ []
       none-there = no-outcome os e
+
+      pub none-carried : Carried m here a 16 here
+      none-carried = record { number-is = number-when 16 (ap (λ xs. cond (some-of xs) 0 16) none-there); leaves = refl }
 
       pub none-answer : Err CarryStop.NotApplicable ≡ answer-by left os
       none-answer = sym (ap₂ answer-by (ahead cs next long h) none-there)
@@ -110,8 +123,12 @@ module _ {S : Type 0} (m : Meaning S) (law : Lawful m) (s : S) (a : ℕ) (cs : L
       pub took-leaves : record { state = o; bytes = rest } ≡ leaves-by s left os
       took-leaves = sym (ap (λ xs. leaves-by s xs os) (ahead cs next long h) ∙ taken-outcome s byte rest os o e)
 
-      pub took-carries : (r : Bool) → Carries m (post (record { state = s; bytes = left })) a (record { state = o; ready = r })
-      took-carries r = (ready, (o, (member os (byte % length os) o e, law .reflexive o)))
+      pub took-carried : (r : Bool) → Carried m here a 0 (record { state = o; ready = r })
+      took-carried r =
+          record {
+            number-is = number-when 0 (ap (λ x. cond x 0 16) (some-there os (byte % length os) o e));
+            leaves = (holds (some-of left) ready, (o, (member os (byte % length os) o e, law .reflexive o)));
+          }
 
 -- copying bytes to the end of 64
 module _ (xs : List ℕ) (n : ℕ) (is : n ≡ min (length xs) 64) where

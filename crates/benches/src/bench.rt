@@ -4,6 +4,7 @@ ghost use mathlib.Core.Path.{_≡_};
 ghost use lib.ListN.{length, take};
 ghost use Rattle.std.specs.declared.result.Result.the-variants.{Err};
 ghost use Rattle.benches.specs.Scripts.{carry-answer, carry-leaves, post, script};
+ghost use Rattle.session.specs.Stops.{carry-number};
 ghost use Rattle.session.specs.Walks.{Carried};
 ghost use Rattle.session.specs.declared.stops.CarryStop.{CarryStop};
 use crate::script::ScriptBench;
@@ -57,7 +58,7 @@ pub impl<S: Copy, B: Book<State = S>> Bench<B> for ScriptBench<S> as ScriptBench
     }
 
     fn carry(&mut self, book: &B, act: u8) -> Result<(), CarryStop>
-        ensures carried { λ r. ⌜ Carried (meaning (now (book .entry))) (post (script (now (self .entry)))) act r (post (script (now (self .exit)))) ⌝ }
+        ensures carried { λ r. ⌜ Carried (meaning (now (book .entry))) (post (script (now (self .entry)))) act (carry-number r) (post (script (now (self .exit)))) ⌝ }
         ensures refused { λ r. ⌜ ((e : CarryStop) → r ≡ Err e → now (self .exit) ≡ now (self .entry)) ⌝ }
         ensures answer { λ r. ⌜ r ≡ carry-answer (meaning (now (book .entry))) (script (now (self .entry))) act ⌝ }
         ensures leaves { λ _. ⌜ script (now (self .exit)) ≡ carry-leaves (meaning (now (book .entry))) (script (now (self .entry))) act ⌝ }

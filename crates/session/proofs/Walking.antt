@@ -1,6 +1,6 @@
 -- What start and step do to any session, and why a step of a session that stands never loses its way. Assumes nothing.
 use mathlib.Core.Path.{_≡_, refl, sym, ap, ap₂, subst, _∙_}
-use mathlib.Core.Bool.{true, false, cond}
+use mathlib.Core.Bool.{Bool, true, false, cond}
 use mathlib.Core.List.{List}
 use Prim.Native.Nat.{ℕ, zero, suc, _+_, _<_, _≤_, min}
 use native.Mathlib.Omega.{arith}
@@ -25,12 +25,12 @@ use Rattle.session.specs.declared.calls.Step.the-variants.{Goal, Acted}
 use Rattle.planning.specs.Meaning.{Meaning, Lawful}
 use Rattle.planning.specs.Finding.{place-of, found}
 use Rattle.planning.specs.Ranks.{some-of, Ranked, Lowest, rank-by, act-of}
-use Rattle.planning.proofs.Tests.{so}
+use Rattle.planning.proofs.Tests.{so, clash}
 use Rattle.planning.proofs.Lists.{none-some, place-below}
 use Rattle.planning.proofs.Within.{ranked-alike}
 use Rattle.session.specs.ClosedForm.{progress, row-by, known}
 use Rattle.session.specs.Views.{View, places, row-at, rank-in, act-in, row-told, with-rank, ranked-at, ranked-place}
-use Rattle.session.specs.Stops.{step-stop}
+use Rattle.session.specs.Stops.{carry-number, step-stop}
 use Rattle.session.specs.Calls.{Stands, Walk-kept, row-of, ask-answer}
 use Rattle.session.specs.Walks.{Post, Carries, Carried, ranked-answer, start-answer, Only-walk, Started, step-at, step-case, Step-kept}
 use Rattle.session.proofs.Steps.{nth-take}
@@ -50,6 +50,17 @@ acted-goal a k q = let z : _≡_ {A = ℕ} 0 1 = cc in omega arith
 pub refusal : (r : Result Step StepStop) (e : CarryStop) → isErr r ≡ true → ErrBy r (λ x. x ≡ step-stop e) → r ≡ Err (step-stop e)
 refusal (Ok x) e q h = absurd (let z : _≡_ {A = ℕ} 0 1 = cc in omega arith)
 refusal (Err x) e q h = ap Err h
+
+-- what a bench's number tells of it
+not-ready : (r x : Bool) → _≡_ {A = ℕ} 15 (cond r (cond x 0 16) 15) → r ≡ false
+not-ready true true e = absurd (omega arith)
+not-ready true false e = absurd (omega arith)
+not-ready false x e = refl
+
+not-usable : (r x : Bool) → _≡_ {A = ℕ} 16 (cond r (cond x 0 16) 15) → x ≡ false
+not-usable true true e = absurd (omega arith)
+not-usable true false e = refl
+not-usable false x e = absurd (omega arith)
 
 same-parts : (a b p j : ℕ) → _≡_ {A = Option (ℕ × ℕ)} (Some (a, b)) (Some (p, j)) → (a ≡ p) × (b ≡ j)
 same-parts a b p j e = (ap (λ o. elim o [ None ↦ a | Some x ↦ x .0 ]) e, ap (λ o. elim o [ None ↦ b | Some x ↦ x .1 ]) e)
@@ -202,12 +213,14 @@ module _ {S : Type 0} (m : Meaning S) (law : Lawful m) (v : View S) (w : Walk) (
           case-act : step-case m n u (Some w) b ≡ cond (b .ready) 1 15
           case-act = case-near ∙ ap (λ x. cond x 0 (cond (b .ready) 1 15)) no-goal
 
-          refuses : (A : Type 0) (e : CarryStop) (b′ : Post S) → Carried m {A = A} b a (Err e) b′ → Leaves (Err (step-stop e)) b′ v
-          refuses A CarryStop.NotReady b′ k = leaves (Err StepStop.NotReady) b′ v (sym (case-act ∙ ap (λ x. cond x 1 15) (k .0)), (k .1, refl))
-          refuses A CarryStop.NotApplicable b′ k = absurd (subst (λ xs. T (some-of xs)) (k .1 .0) (usable m law n u c (b .state) stands-there (ahead .less) (ahead .own-rank) a (ahead .lowest)))
+          refuses : (e : CarryStop) (b′ : Post S) → Carried m b a (carry-number {A = Unit {0}} (Err e)) b′ → Leaves (Err (step-stop e)) b′ v
+          refuses CarryStop.NotReady b′ k = leaves (Err StepStop.NotReady) b′ v (sym (case-act ∙ ap (λ x. cond x 1 15) (not-ready (b .ready) (some-of (m .outcomes (b .state) a)) (k .number-is))), (k .leaves, refl))
+          refuses CarryStop.NotApplicable b′ k =
+              let none = not-usable (b .ready) (some-of (m .outcomes (b .state) a)) (k .number-is) in
+              absurd (clash (some-of (m .outcomes (b .state) a)) none (usable m law n u c (b .state) stands-there (ahead .less) (ahead .own-rank) a (ahead .lowest)))
 
-          pub step-refused : (A : Type 0) (e : CarryStop) (r : Result Step StepStop) → r ≡ Err (step-stop e) → (b′ : Post S) → Carried m {A = A} b a (Err e) b′ → Leaves r b′ v
-          step-refused A e r is b′ k = subst (λ x. Leaves x b′ v) (sym is) (refuses A e b′ k)
+          pub step-refused : (e : CarryStop) (r : Result Step StepStop) → r ≡ Err (step-stop e) → (b′ : Post S) → Carried m b a (carry-number {A = Unit {0}} (Err e)) b′ → Leaves r b′ v
+          step-refused e r is b′ k = subst (λ x. Leaves x b′ v) (sym is) (refuses e b′ k)
 
           module _ (b′ : Post S) (k : Carries m b a b′) where
             abbrev o : S

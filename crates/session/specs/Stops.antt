@@ -7,12 +7,14 @@ use Rattle.session.specs.declared.stops.StartStop.{StartStop}
 use Rattle.session.specs.declared.stops.StepStop.{StepStop}
 use Rattle.session.specs.declared.stops.CarryStop.{CarryStop}
 
+-- the number of what ask answers
 abbrev pub ask-number : {A : Type 0} → Result A AskStop → ℕ
 ask-number (Ok _) = 0
 ask-number (Err AskStop.Working) = 9
 ask-number (Err AskStop.Full) = 10
 ask-number (Err AskStop.Unlisted) = 11
 
+-- the number of what start answers
 abbrev pub start-number : {A : Type 0} → Result A StartStop → ℕ
 start-number (Ok _) = 0
 start-number (Err StartStop.Working) = 9
@@ -20,6 +22,7 @@ start-number (Err StartStop.Full) = 10
 start-number (Err StartStop.Unlisted) = 11
 start-number (Err StartStop.Blank) = 12
 
+-- the number of what step answers
 abbrev pub step-number : {A : Type 0} → Result A StepStop → ℕ
 step-number (Ok _) = 0
 step-number (Err StepStop.NoWalk) = 13
@@ -27,6 +30,7 @@ step-number (Err StepStop.Elsewhere) = 14
 step-number (Err StepStop.NotReady) = 15
 step-number (Err StepStop.NotApplicable) = 16
 
+-- the number of what carry answers
 abbrev pub carry-number : {A : Type 0} → Result A CarryStop → ℕ
 carry-number (Ok _) = 0
 carry-number (Err CarryStop.NotReady) = 15

@@ -19,6 +19,7 @@ pub record View (S : Type 0) : Type 0 where
   pub rows : List Row
   pub plain : Record
 
+-- a session by what it holds
 abbrev pub view : {S : Type 0} → Session S → View S
 view s = record { states = now (s .states); rows = now (s .rows); plain = s .record }
 
@@ -40,11 +41,12 @@ abbrev pub row-at : List Row → Option ℕ → Option Row
 row-at rows None = None
 row-at rows (Some i) = nth rows i
 
--- the rank and the act in a row, if there is a row
+-- the rank in a row, if there is a row
 abbrev pub rank-in : Option Row → Option ℕ
 rank-in None = None
 rank-in (Some row) = row .rank
 
+-- the act in a row, if there is a row
 abbrev pub act-in : Option Row → Option ℕ
 act-in None = None
 act-in (Some row) = row .act
@@ -58,6 +60,7 @@ abbrev pub with-rank : ℕ → Option ℕ → Option (ℕ × ℕ)
 with-rank p None = None
 with-rank p (Some k) = Some (p, k)
 
+-- the place, if there is one, with its rank, if it has one
 abbrev pub ranked-at : List Row → Option ℕ → Option (ℕ × ℕ)
 ranked-at rows None = None
 ranked-at rows (Some p) = with-rank p (rank-in (nth rows p))

@@ -1,9 +1,9 @@
 -- What a bench does, and what start and step do to a session: relations between what was before, the answer, and what is
 -- after. Assumes nothing.
 use mathlib.Core.Path.{_≡_}
-use mathlib.Core.Bool.{Bool, false, cond}
-use mathlib.Core.List.{[], List·Memᴰ}
-use Prim.Native.Nat.{ℕ, _+_}
+use mathlib.Core.Bool.{Bool, cond}
+use mathlib.Core.List.{List·Memᴰ}
+use Prim.Native.Nat.{ℕ, zero, suc, _+_}
 use lib.Dec.{T}
 use Rattle.std.specs.shelf.Maps.{nth}
 use Rattle.std.specs.declared.option.Option.{Option}
@@ -12,13 +12,12 @@ use Rattle.std.specs.declared.result.Result.{Result}
 use Rattle.std.specs.declared.result.Result.the-variants.{Ok, Err}
 use Rattle.planning.specs.Meaning.{Meaning}
 use Rattle.planning.specs.Finding.{place-of}
-use Rattle.planning.specs.Ranks.{Ranked}
+use Rattle.planning.specs.Ranks.{some-of, Ranked}
 use Rattle.session.specs.declared.plain.Row.{Row}
 use Rattle.session.specs.declared.plain.Walk.{Walk}
 use Rattle.session.specs.declared.stops.AskStop.{AskStop}
 use Rattle.session.specs.declared.stops.StartStop.{StartStop}
 use Rattle.session.specs.declared.stops.StepStop.{StepStop}
-use Rattle.session.specs.declared.stops.CarryStop.{CarryStop}
 use Rattle.session.specs.declared.calls.Step.{Step}
 use Rattle.session.specs.declared.calls.Step.the-variants.{Goal, Acted}
 use Rattle.session.specs.ClosedForm.{progress, known, known-rows}
@@ -59,11 +58,19 @@ module _ {S : Type 0} (m : Meaning S) where
   abbrev pub Carries : Post S → ℕ → Post S → Type 0
   Carries b a b′ = T (b .ready) × ((o : S) × (List·Memᴰ o (m .outcomes (b .state) a) × T (m .same o (b′ .state))))
 
-  -- carrying an act: refused exactly where the bench is not ready, then where the act is not applicable
-  abbrev pub Carried : {A : Type 0} → Post S → ℕ → Result A CarryStop → Post S → Type 0
-  Carried b a (Ok _) b′ = Carries b a b′
-  Carried b a (Err CarryStop.NotReady) b′ = (b .ready ≡ false) × (b′ ≡ b)
-  Carried b a (Err CarryStop.NotApplicable) b′ = T (b .ready) × ((m .outcomes (b .state) a ≡ []) × (b′ ≡ b))
+  -- the number that carrying an act owes: 15 where the bench is not ready, then 16 where the act is not applicable
+  abbrev pub carry-owes : Post S → ℕ → ℕ
+  carry-owes b a = cond (b .ready) (cond (some-of (m .outcomes (b .state) a)) 0 16) 15
+
+  -- what carrying an act leaves, by its number: the bench has moved, or is as it was
+  abbrev pub Carry-leaves : Post S → ℕ → ℕ → Post S → Type 0
+  Carry-leaves b a zero b′ = Carries b a b′
+  Carry-leaves b a (suc k) b′ = b′ ≡ b
+
+  -- carrying an act, with the number of its answer
+  pub record Carried (b : Post S) (a number : ℕ) (b′ : Post S) : Type 0 where
+    pub number-is : number ≡ carry-owes b a
+    pub leaves : Carry-leaves b a number b′
 
   -- the walk after a start: at the place of the bench's state with no act done, or as it was
   abbrev pub Walk-begun : ℕ → View S → S → Result ℕ StartStop → Option Walk → Type 0
@@ -82,6 +89,7 @@ module _ {S : Type 0} (m : Meaning S) where
   step-at None b = 13
   step-at (Some s) b = cond (m .same s (b .state)) (cond (m .goal s) 0 (cond (b .ready) 1 15)) 14
 
+  -- which answer a step gives, by its walk
   abbrev pub step-case : ℕ → ℕ → Option Walk → Post S → ℕ
   step-case n u None b = 13
   step-case n u (Some w) b = step-at (nth (known m n u) (w .place)) b

@@ -3,6 +3,7 @@
 ghost use mathlib.Core.Bool.{Bool};
 ghost use mathlib.Core.Path.{_≡_};
 ghost use Rattle.std.specs.declared.result.Result.the-variants.{Err};
+ghost use Rattle.session.specs.Stops.{carry-number};
 ghost use Rattle.session.specs.Walks.{Carried};
 ghost use Rattle.session.specs.declared.stops.CarryStop.{CarryStop};
 use crate::stops::CarryStop;
@@ -29,6 +30,6 @@ pub trait Bench<B: Book> {
     /// have changed. Refused where the bench is not ready, then where the act is not applicable in its state; nothing has
     /// changed then.
     fn carry(&mut self, book: &B, act: u8) -> Result<(), CarryStop>
-        ensures carried { λ r. ⌜ Carried (meaning (now (book .entry))) (record { state = stands (now (self .entry)); ready = fit (now (book .entry)) (now (self .entry)) }) act r (record { state = stands (now (self .exit)); ready = fit (now (book .entry)) (now (self .exit)) }) ⌝ }
+        ensures carried { λ r. ⌜ Carried (meaning (now (book .entry))) (record { state = stands (now (self .entry)); ready = fit (now (book .entry)) (now (self .entry)) }) act (carry-number r) (record { state = stands (now (self .exit)); ready = fit (now (book .entry)) (now (self .exit)) }) ⌝ }
         ensures refused { λ r. ⌜ ((e : CarryStop) → r ≡ Err e → now (self .exit) ≡ now (self .entry)) ⌝ };
 }

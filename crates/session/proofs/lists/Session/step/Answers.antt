@@ -76,7 +76,7 @@ returns-in-Break-carry g c =
       lent = record { states = refl; rows = refl };
       stepped =
           record {
-            answer = λ u h. step-refused m law v (c .in-Some .walk) (c .in-Some .is) u h _ s at near (c .in-Some-row .row) row (c .in-Some-act .act) (c .in-Some-act .is) (Unit {0}) why (c .from-residual .result) is _ (c .in-Break-carry .ensures tt .carried);
+            answer = λ u h. step-refused m law v (c .in-Some .walk) (c .in-Some .is) u h _ s at near (c .in-Some-row .row) row (c .in-Some-act .act) (c .in-Some-act .is) why (c .from-residual .result) is _ (c .in-Break-carry .ensures tt .carried);
             rest = same-walk m v;
           };
       refused = λ e q. (refl, stays);
@@ -98,7 +98,7 @@ returns g c =
       lent = record { states = refl; rows = refl };
       stepped =
           record {
-            answer = λ u h. step-acts m law v (c .in-Some .walk) (c .in-Some .is) u h _ s at near (c .in-Some-row .row) row (c .in-Some-act .act) (c .in-Some-act .is) _ (c .in-Continue-carry .ensures tt .carried) (c .in-Some-ranked-place .place) (c .in-Some-ranked-place .rank) (c .saturating-add .result) found (c .saturating-add .ensures);
+            answer = λ u h. step-acts m law v (c .in-Some .walk) (c .in-Some .is) u h _ s at near (c .in-Some-row .row) row (c .in-Some-act .act) (c .in-Some-act .is) _ (c .in-Continue-carry .ensures tt .carried .leaves) (c .in-Some-ranked-place .place) (c .in-Some-ranked-place .rank) (c .saturating-add .result) found (c .saturating-add .ensures);
             rest = record { states = refl; rows = refl; listed = refl; progress = refl };
           };
       refused = λ e q. absurd (acted-refuses (c .in-Some-act .act) (c .in-Some-ranked-place .rank) e q);
@@ -120,7 +120,7 @@ returns-in-rest-ranked-place g c =
       lent = record { states = refl; rows = refl };
       stepped =
           record {
-            answer = λ u h. absurd (never-lost m law v (c .in-Some .walk) (c .in-Some .is) u h _ s at near (c .in-Some-row .row) row (c .in-Some-act .act) (c .in-Some-act .is) (record { state = g .K·Bench .stands (c .carry .last .self); ready = g .K·Bench .fit (c .args .book .now) (c .carry .last .self) }) (c .in-Continue-carry .ensures tt .carried) lost);
+            answer = λ u h. absurd (never-lost m law v (c .in-Some .walk) (c .in-Some .is) u h _ s at near (c .in-Some-row .row) row (c .in-Some-act .act) (c .in-Some-act .is) (record { state = g .K·Bench .stands (c .carry .last .self); ready = g .K·Bench .fit (c .args .book .now) (c .carry .last .self) }) (c .in-Continue-carry .ensures tt .carried .leaves) lost);
             rest = record { states = refl; rows = refl; listed = refl; progress = refl };
           };
       refused = λ e q. absurd (acted-refuses (c .in-Some-act .act) 65535 e q);
