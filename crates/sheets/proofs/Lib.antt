@@ -1,1 +1,3 @@
 pub mod Splitting
+mod Checking
+pub mod Polish

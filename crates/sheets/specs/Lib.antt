@@ -1,2 +1,5 @@
 pub mod Formulas
+pub mod Signs
+pub mod Stops
+pub mod Checks
 pub mod Events
