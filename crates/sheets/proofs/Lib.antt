@@ -1,3 +1,6 @@
 pub mod Splitting
 mod Checking
 pub mod Polish
+mod Masks
+pub mod Judging
+pub mod Walking

@@ -232,7 +232,7 @@ module _ (n : ℕ) (bs : List ℕ) (t : FormulaFault) (m : n ≤ 26) (e : check-
           let d = w .bars s cs rest b in
           err-ok (sym (d .1) ∙ sym (w .passed (s ∷ rest)) ∙ ap (check-from n 0 1) (sym q) ∙ formula-passes n m (take (formula-place t + 1) bs ++ rest) (g .1))
 
-checked-ok : (n : ℕ) (bs : List ℕ) → checked n bs ≡ Ok tt → length bs ≤ 200
+pub checked-ok : (n : ℕ) (bs : List ℕ) → checked n bs ≡ Ok tt → length bs ≤ 200
 checked-ok n bs e = elim (cases-lt 200 (length bs)) [ inl h ↦ absurd (err-ok (sym (checked-long n bs h) ∙ e)) | inr h ↦ h ]
 
 pub check-accepts : (n : ℕ) (bs : List ℕ) (r : Result (Unit {0}) FormulaFault) → r ≡ checked n bs → n ≤ 26 → Accepts n bs r

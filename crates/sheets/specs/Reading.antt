@@ -16,7 +16,8 @@ use Rattle.sheets.specs.declared.fault.SheetFault.the-variants as sheet-fault
 use Rattle.sheets.specs.declared.sheet.Sheet.{Sheet}
 use Rattle.sheets.specs.Checks.{checked}
 use Rattle.sheets.specs.Events.{Entry, first-event, events-of}
-use Rattle.sheets.specs.Rules.{features-fit, acts-fit, start-fits, fields-fit, low-first, section-count, header-end, offset, ending, section-bytes}
+use Rattle.sheets.specs.Sections.{Part, start, goal, act, named}
+use Rattle.sheets.specs.Rules.{features-fit, acts-fit, start-fits, fields-fit, mask-of, section-count, header-end, offset, ending, section-bytes}
 
 -- A check, and if it passes another.
 abbrev pub then : {E : Type 0} → Result (Unit {0}) E → Result (Unit {0}) E → Result (Unit {0}) E
@@ -30,7 +31,7 @@ ask false t = Err t
 
 -- The start is a mask of eight bytes by the rule.
 abbrev pub start-check : ℕ → List ℕ → Result (Unit {0}) SectionFault
-start-check n bs = ask (eqb (length bs) 8 && start-fits n (low-first bs)) section-fault.Start
+start-check n bs = ask (eqb (length bs) 8 && start-fits n (mask-of bs)) section-fault.Start
 
 -- The bytes from a place of the section on are one whole formula.
 abbrev pub formula-check : ℕ → ℕ → List ℕ → Result (Unit {0}) SectionFault
@@ -54,11 +55,11 @@ events-check n at (suc left) (b ∷ bs) =
 abbrev pub act-check : ℕ → List ℕ → Result (Unit {0}) SectionFault
 act-check n bs = then (ask (ltb 0 (length bs)) (section-fault.Event 0)) (events-check n 0 16 bs)
 
--- Section k: the start, the goal, or an act.
-abbrev pub section-check : ℕ → ℕ → List ℕ → Result (Unit {0}) SectionFault
-section-check n zero bs = start-check n bs
-section-check n (suc zero) bs = formula-check n 0 bs
-section-check n (suc (suc _)) bs = act-check n bs
+-- A section by its name: the start, the goal, or an act.
+abbrev pub part-check : ℕ → Part → Result (Unit {0}) SectionFault
+part-check n (start bs) = start-check n bs
+part-check n (goal bs) = formula-check n 0 bs
+part-check n (act bs) = act-check n bs
 
 -- A fault of a section in the sheet: the sections count from 1, and their places from the section's offset.
 abbrev pub in-sheet : ℕ → ℕ → Result (Unit {0}) SectionFault → Result (Unit {0}) SheetFault
@@ -68,7 +69,7 @@ in-sheet section at (Err t) = Err (sheet-fault.Section section at t)
 -- The sections of these numbers, in order.
 abbrev pub sections-check : List ℕ → List ℕ → Result (Unit {0}) SheetFault
 sections-check bs [] = Ok tt
-sections-check bs (k ∷ ks) = then (in-sheet (k + 1) (offset bs k) (section-check (getD bs 0 0) k (section-bytes bs k))) (sections-check bs ks)
+sections-check bs (k ∷ ks) = then (in-sheet (k + 1) (offset bs k) (part-check (getD bs 0 0) (named k (section-bytes bs k)))) (sections-check bs ks)
 
 -- Nothing is left.
 abbrev pub none-left : List ℕ → Bool
@@ -111,9 +112,9 @@ abbrev pub parts-at : List ℕ → Parts
 parts-at bs =
     record {
       features = getD bs 0 0;
-      start = low-first (section-bytes bs 0);
+      start = mask-of (section-bytes bs 0);
       goal = section-bytes bs 1;
-      acts = map (λ k. events-of (section-bytes bs k)) (counting 2 (getD bs 1 0))
+      acts = map (λ k. events-of (section-bytes bs k)) (counting 2 (getD bs 1 0));
     }
 
 -- What reading gives.
@@ -131,7 +132,7 @@ parts s =
       features = s .features;
       start = s .start;
       goal = now (s .goal);
-      acts = map (λ i. events-of (act-bytes s i)) (counting 0 (s .acts))
+      acts = map (λ i. events-of (act-bytes s i)) (counting 0 (s .acts));
     }
 
 -- What the program answers of a sheet.

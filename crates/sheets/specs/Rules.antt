@@ -36,6 +36,10 @@ abbrev pub low-first : List ℕ → ℕ
 low-first [] = 0
 low-first (b ∷ bs) = b + 256 * low-first bs
 
+-- The number of the first eight bytes: a mask of valuations.
+abbrev pub mask-of : List ℕ → ℕ
+mask-of bs = low-first (take 8 bs)
+
 -- The number of two bytes at a place.
 abbrev pub word : List ℕ → ℕ → ℕ
 word bs i = getD bs i 0 + 256 * getD bs (i + 1) 0

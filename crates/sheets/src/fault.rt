@@ -80,7 +80,11 @@ pub enum SheetFault {
     /// The section of this pair, from 0, begins before the end of what is before it, or is the last and ends past the sheet.
     Pair(u16),
     /// A section's fault: the section's number, 1 for the start, 2 for the goal and 3 on for the acts, and its offset.
-    Section { section: u16, offset: u16, fault: SectionFault },
+    Section {
+        section: u16,
+        offset: u16,
+        fault: SectionFault,
+    },
 }
 
 impl SheetFault {

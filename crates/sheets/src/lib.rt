@@ -5,6 +5,7 @@ mod event;
 mod fault;
 mod formula;
 mod reader;
+mod section;
 mod sheet;
 
 pub use event::Event;

@@ -104,7 +104,11 @@ pub(crate) fn size(sheet: &[u8], number: u16) -> u16
 pub(crate) fn find_section<'a>(sheet: &'a [u8], number: u16) -> &'a [u8]
     ensures { λ r. ⌜ now r ≡ section-bytes (now (sheet .entry)) number ⌝ }
 {
-    window(sheet, offset(sheet, number) as usize, size(sheet, number) as usize)
+    window(
+        sheet,
+        offset(sheet, number) as usize,
+        size(sheet, number) as usize,
+    )
 }
 
 // So many bytes from a place on, as far as there are.
@@ -115,5 +119,9 @@ fn window<'a>(sheet: &'a [u8], from: usize, count: usize) -> &'a [u8]
         return &sheet[0..0];
     }
     let rest = &sheet[from..];
-    if count < rest.len() { &rest[0..count] } else { rest }
+    if count < rest.len() {
+        &rest[0..count]
+    } else {
+        rest
+    }
 }
