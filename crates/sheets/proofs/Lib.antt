@@ -4,3 +4,4 @@ pub mod Polish
 mod Masks
 pub mod Judging
 pub mod Walking
+mod Acting

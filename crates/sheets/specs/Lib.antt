@@ -6,3 +6,4 @@ pub mod Events
 pub mod Rules
 pub mod Sections
 pub mod Reading
+pub mod Layout
