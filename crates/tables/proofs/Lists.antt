@@ -7,7 +7,10 @@ use Prim.Native.Nat.{ℕ, zero, suc, _+_, _-_, _≤_, _<_}
 use native.Mathlib.Omega.{arith}
 use lib.Dec.{leb}
 use lib.ListN.{length, take, drop}
-use Rattle.std.proofs.shelf.Maps.{nth-past}
+use denote.Ref.{RefT, now}
+use Rattle.std.specs.Options.{mapped}
+use Rattle.std.specs.Places.{Item}
+use Rattle.std.proofs.shelf.Maps.{nth-getD, nth-past}
 use Rattle.std.proofs.shelf.Tests.{both-ways, cases-bool, cases-lt, cond-false, cond-true, le-leb, lt-leb, leb-true, leb-false}
 use Rattle.std.specs.shelf.Lists.{All, kept-by}
 use Rattle.std.specs.shelf.Maps.{nth}
@@ -23,6 +26,11 @@ cond-same false p q = q
 pub or-same : (b x y : Bool) → (b ≡ false → x ≡ y) → (b || x) ≡ (b || y)
 or-same true x y h = refl
 or-same false x y h = h refl
+
+-- a copy of what stands at a place, as it is lent
+pub copied-at : {A : Type 0} (xs : List A) (i : ℕ) (r : Option (RefT A)) (o : Option A) → Item xs i i r → o ≡ mapped now r → o ≡ nth xs i
+copied-at xs i None o h e = e ∙ sym (nth-past xs i (h .3))
+copied-at xs i (Some x) o h e = e ∙ ap (λ y. Some y) (h .3 .1 (now x)) ∙ sym (nth-getD xs i (now x) (h .3 .0))
 
 module _ {A : Type 0} where
   pub nth-take : (n : ℕ) (xs : List A) (i : ℕ) → i < n → nth (take n xs) i ≡ nth xs i

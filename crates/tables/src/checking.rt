@@ -6,7 +6,6 @@ ghost use Rattle.tables.specs.Checking.{wrong-beside, wrong-here};
 ghost use Rattle.tables.specs.Places.{back};
 ghost use Rattle.tables.specs.Tables.{first-wrong, levels-fit, table-fault};
 use crate::fault::TableFault;
-use crate::looking::item;
 use crate::row::TableRow;
 use crate::spot::Spot;
 
@@ -68,7 +67,7 @@ fn first_wrong(acts: u8, rows: &[TableRow]) -> Option<usize>
 fn wrong_at(acts: u8, rows: &[TableRow], i: usize) -> bool
     ensures { λ r. ⌜ r ≡ wrong-here acts (now (rows .entry)) i ⌝ }
 {
-    match item(rows, i) {
+    match rows.get(i).copied() {
         Some(row) => wrong_beside(acts, back(rows, 1, i), back(rows, 8, i), row),
         None => false,
     }
@@ -81,7 +80,7 @@ fn back(rows: &[TableRow], by: usize, i: usize) -> Option<TableRow>
     if i < by {
         return None;
     }
-    item(rows, i - by)
+    rows.get(i - by).copied()
 }
 
 /// Whether a row is wrong after the row just before it and the row eight places before it.

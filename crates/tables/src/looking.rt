@@ -8,17 +8,6 @@ ghost use Rattle.tables.specs.Rows.{targets};
 use crate::row::TableRow;
 use crate::spot::Spot;
 
-/// The element at a place, nothing past the last.
-pub(crate) fn item<T: Copy>(items: &[T], i: usize) -> Option<T>
-    ensures { λ r. ⌜ r ≡ nth (now (items .entry)) i ⌝ }
-{
-    if i < items.len() {
-        Some(items[i])
-    } else {
-        None
-    }
-}
-
 /// The place of the first row that does not come before the spot and the act, found by halving.
 pub(crate) fn first_row(rows: &[TableRow], s: Spot, act: u8) -> usize
     ensures { λ r. ⌜ r ≡ first-row (now (rows .entry)) s act ⌝ }

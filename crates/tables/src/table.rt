@@ -9,7 +9,6 @@ ghost use Rattle.tables.specs.Tables.{Well-made, table-answer};
 use crate::checking::first_fault;
 use crate::fault::TableFault;
 use crate::looking::first_row;
-use crate::looking::item;
 use crate::looking::target;
 use crate::row::TableRow;
 use crate::spot::Spot;
@@ -78,7 +77,7 @@ pub impl<'a> Book for MoveTable<'a> as TableBook {
         if !s.within() {
             return false;
         }
-        match item(self.wanted, s.zone as usize) {
+        match self.wanted.get(s.zone as usize).copied() {
             Some(level) => level <= s.level,
             None => false,
         }
