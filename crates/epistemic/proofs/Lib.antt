@@ -1,0 +1,13 @@
+pub mod Tests
+pub mod Lists
+pub mod Bits
+pub mod Laws
+pub mod Simulations
+pub mod Invariance
+pub mod Locality
+pub mod Truths
+pub mod Sameness
+pub mod Reach
+pub mod Updates
+pub mod Outcomes
+pub mod Letters
