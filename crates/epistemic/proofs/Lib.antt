@@ -1,6 +1,7 @@
 pub mod Tests
 pub mod Lists
 pub mod Bits
+pub mod Images
 pub mod Laws
 pub mod Simulations
 pub mod Invariance
@@ -11,3 +12,6 @@ pub mod Reach
 pub mod Updates
 pub mod Outcomes
 pub mod Letters
+pub mod Shifts
+pub mod Features
+pub mod Changes

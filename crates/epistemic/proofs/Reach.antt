@@ -9,65 +9,19 @@ use lib.Bits.{bitOr}
 use lib.Dec.{T, eqb, eqb→eq, eqb-refl}
 use Rattle.std.proofs.shelf.Tests.{cases-lt}
 use Rattle.epistemic.specs.Lists.{_∈_, every, some, implies}
-use Rattle.epistemic.specs.Bits.{bit}
+use Rattle.epistemic.specs.Bits.{bit, image}
 use Rattle.sheets.specs.Formulas.{top}
 use Rattle.epistemic.specs.Models.{sat, may-after, applicable}
 use Rattle.epistemic.specs.Cells.{Fit, model, truth}
-use Rattle.epistemic.specs.Acts.{Event, events, new-bit, moved, image, possible, outcome}
-use Rattle.epistemic.proofs.Tests.{clash, or-cases, or-left, or-right, and-over-or}
+use Rattle.epistemic.specs.Acts.{Event, events, new-bit, moved, possible, outcome}
+use Rattle.epistemic.proofs.Tests.{clash, or-cases, and-over-or}
 use Rattle.epistemic.proofs.Lists.{some-at}
-use Rattle.epistemic.proofs.Bits.{bit-none, bit-or, bit-power, bit-below, below-bits, mask-below}
+use Rattle.epistemic.proofs.Bits.{bit-none, bit-or, bit-below, below-bits, mask-below}
+use Rattle.epistemic.proofs.Images.{or-from, or-into-left, or-into-right, gated-from, gated-to, image-from, image-to}
 use Rattle.epistemic.proofs.Truths.{truth-bit, truth-from, all-pass}
 
--- a bit of a union, as a test
-or-from : (a b i : ℕ) → T (bit (bitOr a b) i) → T (bit a i || bit b i)
-or-from a b i t = subst T (bit-or a b i) t
-
-or-into-left : (a b i : ℕ) → T (bit a i) → T (bit (bitOr a b) i)
-or-into-left a b i t = subst T (sym (bit-or a b i)) (or-left (bit a i) (bit b i) t)
-
-or-into-right : (a b i : ℕ) → T (bit b i) → T (bit (bitOr a b) i)
-or-into-right a b i t = subst T (sym (bit-or a b i)) (or-right (bit a i) (bit b i) t)
-
--- a mask that stands only where a test passes
-gated-from : (b : Bool) (m i : ℕ) → T (bit (cond b m 0) i) → T b × T (bit m i)
-gated-from true m i t = (tt, t)
-gated-from false m i t = absurd (clash (bit 0 i) (bit-none i) t)
-
-gated-to : (b : Bool) (m i : ℕ) → T b → T (bit m i) → T (bit (cond b m 0) i)
-gated-to true m i s t = t
-gated-to false m i s t = absurd s
-
-module _ (n : ℕ) where
-  pub moved-below : (e : Event) (v : ℕ) → moved n e v < 2 ^ n
-  moved-below e v = mask-below n (new-bit e v)
-
-  image-from : (e : Event) (x k u : ℕ) → T (bit (image n e x k) u) → (v : ℕ) × (T (bit x v) × (moved n e v ≡ u))
-  unfolding image
-  image-from e x zero u t = absurd (clash (bit 0 u) (bit-none u) t)
-  image-from e x (suc k) u t =
-      let last = cond (bit x k) (2 ^ moved n e k) 0 in
-      elim (or-cases (bit (image n e x k) u) (bit last u) (or-from (image n e x k) last u t)) [
-        | inl s ↦ image-from e x k u s
-        | inr s ↦
-            let r = gated-from (bit x k) (2 ^ moved n e k) u s in
-            (k, (r .0, sym (eqb→eq u (moved n e k) (subst T (bit-power (moved n e k) u) (r .1)))))
-      ]
-
-  image-to : (e : Event) (x k v : ℕ) → v < k → T (bit x v) → T (bit (image n e x k) (moved n e v))
-  unfolding image
-  image-to e x zero v h t = absurd (omega arith)
-  image-to e x (suc k) v h t =
-      let last = cond (bit x k) (2 ^ moved n e k) 0 in
-      elim (cases-lt v k) [
-        | inl l ↦ or-into-left (image n e x k) last (moved n e v) (image-to e x k v l t)
-        | inr l ↦
-            let same : v ≡ k = omega arith in
-            let u = moved n e k in
-            let own : T (bit (2 ^ u) u) = subst T (sym (bit-power u u)) (eqb-refl u) in
-            let here : T (bit last u) = gated-to (bit x k) (2 ^ u) u (subst (λ w. T (bit x w)) same t) own in
-            or-into-right (image n e x k) last (moved n e v) (subst (λ w. T (bit last (moved n e w))) (sym same) here)
-      ]
+pub moved-below : (n : ℕ) (e : Event) (v : ℕ) → moved n e v < 2 ^ n
+moved-below n e v = mask-below n (new-bit e v)
 
 module _ (n c : ℕ) where
   -- an event of class k that is possible at a valuation of the cell and leads to u
@@ -82,12 +36,12 @@ module _ (n c : ℕ) where
   pub outcome-from : (k u : ℕ) (act : List Event) → T (bit (outcome n c k act) u) → Reached act k u
   outcome-from k u [] t = absurd (clash (bit 0 u) (bit-none u) t)
   outcome-from k u (e ∷ es) t =
-      let here = image n e (truth n c (e .pre)) (2 ^ n) in
+      let here = image (moved n e) (truth n c (e .pre)) (2 ^ n) in
       let first = cond (eqb (e .class) k) here 0 in
       elim (or-cases (bit first u) (bit (outcome n c k es) u) (or-from first (outcome n c k es) u t)) [
         | inl s ↦
             let g = gated-from (eqb (e .class) k) here u s in
-            let r = image-from n e (truth n c (e .pre)) (2 ^ n) u (g .1) in
+            let r = image-from (moved n e) (truth n c (e .pre)) (2 ^ n) u (g .1) in
             record { event = e; listed = List·Memᴰ·head refl; of-class = eqb→eq (e .class) k (g .0); from = r .0; can = r .1 .0; leads = r .1 .1 }
         | inr s ↦
             let r = outcome-from k u es s in
@@ -97,14 +51,14 @@ module _ (n c : ℕ) where
   module _ (fits : Fit n c) where
     pub outcome-to : (k v : ℕ) {e : Event} {act : List Event} → e ∈ act → e .class ≡ k → T (bit (truth n c (e .pre)) v) → T (bit (outcome n c k act) (moved n e v))
     outcome-to k v {e} (List·Memᴰ·head {x = d} {xs = es} same) of-class t =
-        let here = image n d (truth n c (d .pre)) (2 ^ n) in
+        let here = image (moved n d) (truth n c (d .pre)) (2 ^ n) in
         let below = bit-below (2 ^ n) c v fits (truth-from n c fits (e .pre) v t .0) in
-        let there : T (bit here (moved n d v)) = image-to n d (truth n c (d .pre)) (2 ^ n) v below (subst (λ x. T (bit (truth n c (x .pre)) v)) same t) in
+        let there : T (bit here (moved n d v)) = image-to (moved n d) (truth n c (d .pre)) (2 ^ n) v below (subst (λ x. T (bit (truth n c (x .pre)) v)) same t) in
         let class : T (eqb (d .class) k) = subst (λ j. T (eqb (d .class) j)) (sym (ap (λ x. x .class) same) ∙ of-class) (eqb-refl (d .class)) in
         or-into-left (cond (eqb (d .class) k) here 0) (outcome n c k es) (moved n e v)
         (subst (λ x. T (bit (cond (eqb (d .class) k) here 0) (moved n x v))) (sym same) (gated-to (eqb (d .class) k) here (moved n d v) class there))
     outcome-to k v {e} (List·Memᴰ·tail {x = d} {xs = es} i) of-class t =
-        or-into-right (cond (eqb (d .class) k) (image n d (truth n c (d .pre)) (2 ^ n)) 0) (outcome n c k es) (moved n e v) (outcome-to k v i of-class t)
+        or-into-right (cond (eqb (d .class) k) (image (moved n d) (truth n c (d .pre)) (2 ^ n)) 0) (outcome n c k es) (moved n e v) (outcome-to k v i of-class t)
 
     -- an outcome is a cell
     pub outcome-fits : (k : ℕ) (act : List Event) → Fit n (outcome n c k act)

@@ -7,7 +7,7 @@ use lib.Dec.{eqb}
 use Rattle.std.specs.Iters.{counting}
 use Rattle.std.specs.shelf.Lists.{kept-by}
 use Rattle.epistemic.specs.Lists.{_∈_}
-use Rattle.epistemic.specs.Bits.{bit, mask}
+use Rattle.epistemic.specs.Bits.{bit, mask, image, put}
 use Rattle.sheets.specs.Formulas.{Formula, top, letter, neg}
 use Rattle.epistemic.specs.Models.{EventModel}
 use Rattle.epistemic.specs.Cells.{truth, fit}
@@ -27,6 +27,14 @@ post e i = cond (bit (e .set) i) top (cond (bit (e .clear) i) (neg top) (letter 
 abbrev pub new-bit : Event → ℕ → ℕ → Bool
 new-bit e v i = cond (bit (e .set) i) true (cond (bit (e .clear) i) false (bit v i))
 
+-- the valuation with feature i as the event leaves it, and with all features below k so
+abbrev pub with-feature : Event → ℕ → ℕ → ℕ
+with-feature e i v = put i (new-bit e v i) v
+
+abbrev pub with-features : Event → ℕ → ℕ → ℕ
+with-features e zero v = v
+with-features e (suc k) v = with-feature e k (with-features e k v)
+
 -- the act as an event model: the agent tells events apart by their class alone
 abbrev pub events : List Event → EventModel Event
 events act = record { events = act; alike = λ d e. eqb (d .class) (e .class); pre = λ e. e .pre; post = post }
@@ -41,11 +49,6 @@ module _ (n : ℕ) where
   abbrev pub moved : Event → ℕ → ℕ
   moved e v = mask n (new-bit e v)
 
-  -- the new valuations from the valuations below k of the mask x
-  unfoldable pub image : Event → ℕ → ℕ → ℕ
-  image e x zero = 0
-  image e x (suc k) = bitOr (image e x k) (cond (bit x k) (2 ^ moved e k) 0)
-
   module _ (c : ℕ) where
     -- the valuations of the cell at which some event is possible
     abbrev pub possible : List Event → ℕ
@@ -55,7 +58,7 @@ module _ (n : ℕ) where
     -- the new valuations of class k
     abbrev pub outcome : ℕ → List Event → ℕ
     outcome k [] = 0
-    outcome k (e ∷ es) = bitOr (cond (eqb (e .class) k) (image e (truth n c (e .pre)) (2 ^ n)) 0) (outcome k es)
+    outcome k (e ∷ es) = bitOr (cond (eqb (e .class) k) (image (moved e) (truth n c (e .pre)) (2 ^ n)) 0) (outcome k es)
 
     -- the outcomes by rising class; none unless each valuation of the cell has a possible event
     abbrev pub outcomes : List Event → List ℕ

@@ -79,7 +79,7 @@ fn atom_mask(cell: u64, letters: u8, sign: u8) -> u64
 }
 
 /// The valuations at which letter `i` holds.
-fn letter_mask(i: u8) -> u64
+pub(crate) fn letter_mask(i: u8) -> u64
     ensures { λ r. ⌜ r ≡ letter-mask 6 i ⌝ }
 {
     match i {

@@ -1,5 +1,6 @@
 //! Knowledge books: cells of valuations, and acts whose events tell the agent something and change features.
 
+mod event;
 mod formula;
 
 pub use formula::evaluate;
