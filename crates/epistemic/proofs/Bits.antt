@@ -165,3 +165,16 @@ bit-mask (suc k) f i h =
     top l =
         let e : i ≡ k = omega arith in
         ap₂ (λ b c. b || (f k && c)) (bit-mask-past k f i l) (eq-eqb i k e) ∙ and-true (f k) ∙ ap f (sym e)
+
+pub or-assoc : (a b c : ℕ) → bitOr (bitOr a b) c ≡ bitOr a (bitOr b c)
+or-assoc a b c =
+    same-bits (bitOr (bitOr a b) c) (bitOr a (bitOr b c))
+    (λ i. bit-or (bitOr a b) c i
+    ∙ ap (λ x. x || bit c i) (bit-or a b i)
+    ∙ regroup (bit a i) (bit b i) (bit c i)
+    ∙ ap (λ x. bit a i || x) (sym (bit-or b c i))
+    ∙ sym (bit-or a (bitOr b c) i))
+  where
+    regroup : (x y z : Bool) → ((x || y) || z) ≡ (x || (y || z))
+    regroup true y z = refl
+    regroup false y z = refl

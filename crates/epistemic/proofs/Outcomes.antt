@@ -13,16 +13,16 @@ use Rattle.std.proofs.shelf.Bits.{pow-pos}
 use Rattle.std.proofs.shelf.Tests.{cases-lt, le-ltb}
 use Rattle.epistemic.specs.Lists.{_∈_}
 use Rattle.epistemic.specs.Bits.{bit}
-use Rattle.sheets.specs.Formulas.{top}
+use Rattle.sheets.specs.Formulas.{Formula, top}
 use Rattle.epistemic.specs.Models.{sat, valid, information, may-after, applicable}
 use Rattle.epistemic.specs.Bisimulations.{Bisimilar}
-use Rattle.epistemic.specs.Cells.{Fit, fit, model, truth}
-use Rattle.epistemic.specs.Acts.{Event, events, Proper, possible, outcome, outcomes}
-use Rattle.epistemic.specs.Claims.{update, occurs, Cells-of-update, Outcomes, Applicability, Edges}
+use Rattle.epistemic.specs.Cells.{Fit, fit, Proper-cell, model, truth, goal}
+use Rattle.epistemic.specs.Acts.{Event, events, Proper, nonempty, possible, outcome, outcomes}
+use Rattle.epistemic.specs.Claims.{update, occurs, Cells-of-update, Outcomes-explained}
 use Rattle.epistemic.proofs.Tests.{iff, so, clash, decide, eqb-from}
 use Rattle.epistemic.proofs.Lists.{every-at, every-from, some-at, some-from, kept-from, kept-to, kept-map, kept-most, no-members, map-from, map-to, counting-to}
 use Rattle.epistemic.proofs.Bits.{bit-none, some-bit}
-use Rattle.epistemic.proofs.Truths.{from-cell, to-cell, fit-true, goals}
+use Rattle.epistemic.proofs.Truths.{from-cell, to-cell, fit-true, goal-valid}
 use Rattle.epistemic.proofs.Reach.{outcome-fits, may-from, possible-all}
 use Rattle.epistemic.proofs.Updates.{ends, from-update, to-update, from-information, to-information, lands, source, cell-is-outcome}
 
@@ -62,7 +62,7 @@ module _ (n c : ℕ) (act : List Event) (fits : Fit n c) where
   outcomes-are : outcomes n c act ≡ cond (applicable (model n c) (events act)) classes []
   outcomes-are =
       ap₂ (λ b xs. cond b xs []) (ap₂ _&&_ (fit-true n c fits) (possible-all n c fits act))
-      (kept-map (λ k. outcome n c k act) (λ o. not (eqb o 0)) (occurs n c act) (counting 0 8) (λ k _. occurring k))
+      (kept-map (λ k. outcome n c k act) nonempty (occurs n c act) (counting 0 8) (λ k _. occurring k))
 
   outcomes-none : applicable (model n c) (events act) ≡ false → outcomes n c act ≡ []
   outcomes-none e = outcomes-are ∙ ap (λ b. cond b classes []) e
@@ -104,7 +104,7 @@ module _ (n c : ℕ) (act : List Event) (fits : Fit n c) where
         subst (λ xs. outcome n c (x .1 .class) act ∈ xs) (sym (outcomes-all t))
         (map-to (λ k. outcome n c k act) (kept-to (occurs n c act) (counting-to 0 8 (x .1 .class) (omega arith) (omega arith)) occurs-here))
 
-    cells-of-update : T (applicable (model n c) (events act)) → Cells-of-update n c act
+    cells-of-update : T (applicable (model n c) (events act)) → Cells-of-update n c act (outcomes n c act)
     cells-of-update t =
         record {
           same-class = λ x y i. from-information n c act x y i .1;
@@ -128,57 +128,58 @@ module _ (n c : ℕ) (act : List Event) (fits : Fit n c) where
         let i = to-update n c act x (record { at = at; by = e .1 .0; can = e .1 .1 }) in
         List·Memᴰ·not-nil (subst (λ xs. outcome n c (e .0 .class) act ∈ xs) none (listed t x i))
 
-pub outcomes-hold : Outcomes
-outcomes-hold n c act fits proper t = cells-of-update n c act fits proper t
-
-pub applicability : Applicability
-applicability =
+-- in a proper cell the outcomes are as the theory has them
+pub outcomes-explained : (n c : ℕ) (act : List Event) → Proper-cell n c → Proper n act → Outcomes-explained n c act (outcomes n c act)
+outcomes-explained n c act cell proper =
     record {
-      only-if = λ n c act fits h. elim (decide (applicable (model n c) (events act))) [ inl t ↦ t | inr e ↦ absurd (h (outcomes-none n c act fits e)) ];
-      if = λ n c act fits proper h t. has-outcome n c act fits proper h t;
+      applicable-if = λ h. elim (decide (applicable (model n c) (events act))) [ inl t ↦ t | inr e ↦ absurd (h (outcomes-none n c act (cell .1) e)) ];
+      only-if-applicable = has-outcome n c act (cell .1) proper (cell .0);
+      cells = cells-of-update n c act (cell .1) proper;
     }
 
-few : (n c : ℕ) (act : List Event) → length (outcomes n c act) ≤ 8
+-- at most one outcome for each class
+pub few : (n c : ℕ) (act : List Event) → length (outcomes n c act) ≤ 8
 few n c act = go (fit n c && eqb (possible n c act) c)
   where
     all : List ℕ
     all = map (λ k. outcome n c k act) (counting 0 8)
 
-    go : (b : Bool) → length (cond b (kept-by (λ o. not (eqb o 0)) all) []) ≤ 8
-    go true = omega (arith, kept-most (λ (o : ℕ). not (eqb o 0)) all)
+    go : (b : Bool) → length (cond b (kept-by nonempty all) []) ≤ 8
+    go true = omega (arith, kept-most nonempty all)
     go false = omega arith
 
--- what does not fit has no outcomes and is no goal
+-- a mask with a bit from 2 ^ n up has no outcomes and is no goal
 unfit : (n c : ℕ) → 2 ^ (2 ^ n) ≤ c → fit n c ≡ false
 unfit n c h = le-ltb c (2 ^ (2 ^ n)) h
 
-fit-outcome : (n c : ℕ) (act : List Event) (o : ℕ) → o ∈ outcomes n c act → (0 < o) × Fit n o
-fit-outcome n c act o i =
+pub outside-none : (n c : ℕ) (act : List Event) → 2 ^ (2 ^ n) ≤ c → outcomes n c act ≡ []
+outside-none n c act h =
+    ap (λ b. cond (b && eqb (possible n c act) c) (kept-by nonempty (map (λ k. outcome n c k act) (counting 0 8))) []) (unfit n c h)
+
+pub outside-no-goal : (n c : ℕ) (f : Formula) → 2 ^ (2 ^ n) ≤ c → goal n f c ≡ false
+outside-no-goal n c f h = ap (λ b. b && eqb (truth n c f) c) (unfit n c h)
+
+-- an outcome is a proper cell
+pub outcome-proper : (n c : ℕ) (act : List Event) (o : ℕ) → o ∈ outcomes n c act → Proper-cell n o
+outcome-proper n c act o i =
     elim (cases-lt c (2 ^ (2 ^ n))) [
       | inl fits ↦ is-cell n c act fits o (class-of n c act fits o i)
-      | inr h ↦ absurd (List·Memᴰ·not-nil (subst (λ xs. o ∈ xs) (no-outcomes h) i))
+      | inr h ↦ absurd (List·Memᴰ·not-nil (subst (λ xs. o ∈ xs) (outside-none n c act h) i))
     ]
-  where
-    no-outcomes : 2 ^ (2 ^ n) ≤ c → outcomes n c act ≡ []
-    no-outcomes h = ap (λ b. cond (b && eqb (possible n c act) c) (kept-by (λ o. not (eqb o 0)) (map (λ k. outcome n c k act) (counting 0 8))) []) (unfit n c h)
 
+-- the empty mask has no outcomes and is a goal
 empty-fits : (n : ℕ) → Fit n 0
 empty-fits n = pow-pos (2 ^ n)
 
 nowhere : (n v : ℕ) → v ∈ model n 0 .worlds → ⊥
 nowhere n v i = clash (bit 0 v) (bit-none v) (from-cell n 0 v i .1)
 
-pub edges : Edges
-edges =
-    record {
-      few = few;
-      cells = fit-outcome;
-      empty = λ n act f. (
-        no-members (outcomes n 0 act) (λ o i. let r = class-of n 0 act (empty-fits n) o i in nowhere n (r .world .0) (from-update n 0 act (r .world) (r .member) .at)),
-        goals n 0 f (empty-fits n) ∙ so (valid (model n 0) f) (every-from (λ w. sat (model n 0) w f) (model n 0 .worlds) (λ v i. absurd (nowhere n v i))),
-      );
-      outside = λ n c act f h. (
-        ap (λ b. cond (b && eqb (possible n c act) c) (kept-by (λ o. not (eqb o 0)) (map (λ k. outcome n c k act) (counting 0 8))) []) (unfit n c h),
-        ap (λ b. b && eqb (truth n c f) c) (unfit n c h),
-      );
-    }
+pub empty-none : (n : ℕ) (act : List Event) → outcomes n 0 act ≡ []
+empty-none n act =
+    no-members (outcomes n 0 act)
+    (λ o i. let r = class-of n 0 act (empty-fits n) o i in nowhere n (r .world .0) (from-update n 0 act (r .world) (r .member) .at))
+
+pub empty-goal : (n : ℕ) (f : Formula) → goal n f 0 ≡ true
+empty-goal n f =
+    goal-valid n 0 f (empty-fits n)
+    ∙ so (valid (model n 0) f) (every-from (λ w. sat (model n 0) w f) (model n 0 .worlds) (λ v i. absurd (nowhere n v i)))

@@ -9,11 +9,11 @@ use Rattle.epistemic.specs.Lists.{_∈_, every, some}
 use Rattle.epistemic.specs.Bits.{bit}
 use Rattle.sheets.specs.Formulas.{Formula, top, letter, neg, and, or, K, M}
 use Rattle.epistemic.specs.Models.{sat, valid}
-use Rattle.epistemic.specs.Cells.{Fit, fit, model, valuations, letter-mask, truth}
-use Rattle.epistemic.specs.Claims.{Truth, Goals}
+use Rattle.epistemic.specs.Cells.{Fit, fit, model, valuations, letter-mask, truth, goal}
+use Rattle.epistemic.specs.Claims.{Satisfied-at}
 use Rattle.epistemic.proofs.Tests.{iff, so, clash, fails, and-parts, and-from, and-over-and, and-over-or}
 use Rattle.epistemic.proofs.Lists.{every-at, every-from, some-at, some-from, kept-from, kept-to, counting-from, counting-to}
-use Rattle.epistemic.proofs.Bits.{bit-none, bit-and, bit-or, bit-xor, bit-mask, bit-below, same-bits}
+use Rattle.epistemic.proofs.Bits.{bit-none, bit-and, bit-or, bit-xor, bit-mask, bit-below, below-bits, same-bits}
 
 module _ (n c : ℕ) where
   -- the worlds of a cell
@@ -110,16 +110,23 @@ module _ (n c : ℕ) (fits : Fit n c) where
   pub truth-to : (f : Formula) (v : ℕ) → T (bit c v) → T (sat (model n c) v f) → T (bit (truth n c f) v)
   truth-to f v t u = subst T (sym (truth-bit f v)) (and-from (bit c v) (sat (model n c) v f) t u)
 
+  -- a formula's mask is a cell
+  pub truth-fits : (f : Formula) → Fit n (truth n c f)
+  truth-fits f = below-bits (2 ^ n) (truth n c f) (λ v t. bit-below (2 ^ n) c v fits (truth-from f v t .0))
+
   pub fit-true : fit n c ≡ true
   fit-true = so (fit n c) (lt→ltb c (2 ^ (2 ^ n)) fits)
 
-pub truths : Truth
-truths =
+-- the truth mask is where the formula is satisfied
+pub truth-satisfied : (n c : ℕ) (f : Formula) → Fit n c → Satisfied-at n c f (truth n c f)
+truth-satisfied n c f fits =
     record {
-      inside = λ n c f fits v t. truth-bit n c fits f v ∙ ap (λ b. b && sat (model n c) v f) (so (bit c v) t);
-      outside = λ n c f fits v e. truth-bit n c fits f v ∙ ap (λ b. b && sat (model n c) v f) e;
+      inside = λ v t. truth-bit n c fits f v ∙ ap (λ b. b && sat (model n c) v f) (so (bit c v) t);
+      outside = λ v e. truth-bit n c fits f v ∙ ap (λ b. b && sat (model n c) v f) e;
     }
 
-pub goals : Goals
-goals n c f fits =
-    ap (λ b. b && eqb (truth n c f) c) (fit-true n c fits) ∙ all-pass n c fits (truth n c f) (λ w. sat (model n c) w f) (truth-bit n c fits f)
+-- a cell is a goal exactly when the goal formula is true in its model
+pub goal-valid : (n c : ℕ) (f : Formula) → Fit n c → goal n f c ≡ valid (model n c) f
+goal-valid n c f fits =
+    ap (λ b. b && eqb (truth n c f) c) (fit-true n c fits)
+    ∙ all-pass n c fits (truth n c f) (λ w. sat (model n c) w f) (truth-bit n c fits f)

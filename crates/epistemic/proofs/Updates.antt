@@ -13,7 +13,7 @@ use Rattle.epistemic.specs.Models.{Model, sat, information}
 use Rattle.epistemic.specs.Bisimulations.{Bisimilar}
 use Rattle.epistemic.specs.Cells.{Fit, model}
 use Rattle.epistemic.specs.Acts.{Event, events, post, new-bit, Proper, moved, outcome}
-use Rattle.epistemic.specs.Claims.{update, Moves}
+use Rattle.epistemic.specs.Claims.{update, World-moved}
 use Rattle.epistemic.proofs.Tests.{eqb-from}
 use Rattle.epistemic.proofs.Lists.{kept-from, kept-to}
 use Rattle.epistemic.proofs.Laws.{from-product, to-product}
@@ -136,11 +136,11 @@ module _ (n c : ℕ) (act : List Event) where
               right = onto;
             }
 
-pub moves : Moves
-moves =
+-- a world moves to its new valuation
+pub world-moved : (n c : ℕ) (act : List Event) → Fit n c → Proper n act → (x : ℕ × Event) → x ∈ update n c act .worlds → World-moved n c act x
+world-moved n c act fits proper x i =
+    let w = from-update n c act x i in
     record {
-      letters = λ n c act proper x i k.
-          let w = from-update n c act x i in
-          letter-moved n c (x .1) (x .0) (proper .set-below (x .1) (w .by)) (from-cell n c (x .0) (w .at) .0) k;
-      lands = λ n c act fits x i. from-cell n (outcome n c (x .1 .class) act) (ends n x) (lands n c act fits x i (x .1 .class) refl) .1;
+      letters = letter-moved n c (x .1) (x .0) (proper .set-below (x .1) (w .by)) (from-cell n c (x .0) (w .at) .0);
+      lands = from-cell n (outcome n c (x .1 .class) act) (ends n x) (lands n c act fits x i (x .1 .class) refl) .1;
     }

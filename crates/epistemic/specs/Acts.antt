@@ -39,6 +39,10 @@ with-features e (suc k) v = with-feature e k (with-features e k v)
 abbrev pub events : List Event → EventModel Event
 events act = record { events = act; alike = λ d e. eqb (d .class) (e .class); pre = λ e. e .pre; post = post }
 
+-- a set that is not empty
+abbrev pub nonempty : ℕ → Bool
+nonempty o = not (eqb o 0)
+
 module _ (n : ℕ) where
   -- what a sheet's events obey, as far as it matters here: 8 classes, and only features below n are set
   pub record Proper (act : List Event) : Type 0 where
@@ -60,7 +64,7 @@ module _ (n : ℕ) where
     outcome k [] = 0
     outcome k (e ∷ es) = bitOr (cond (eqb (e .class) k) (image (moved e) (truth n c (e .pre)) (2 ^ n)) 0) (outcome k es)
 
-    -- the outcomes by rising class; none unless each valuation of the cell has a possible event
+    -- the outcomes by rising class: the sets that are not empty; none unless each valuation of the cell has a possible event
     abbrev pub outcomes : List Event → List ℕ
     outcomes act =
-        cond (fit n c && eqb (possible act) c) (kept-by (λ o. not (eqb o 0)) (map (λ k. outcome k act) (counting 0 8))) []
+        cond (fit n c && eqb (possible act) c) (kept-by nonempty (map (λ k. outcome k act) (counting 0 8))) []

@@ -2,5 +2,6 @@
 
 mod event;
 mod formula;
+mod update;
 
 pub use formula::evaluate;
