@@ -1,13 +1,12 @@
 -- No line of a session that stands over its book needs more than 64 bytes. Assumes nothing.
-use mathlib.Core.Path.{_≡_, refl, sym, ap, subst, _∙_}
-use mathlib.Core.Bool.{Bool, true, false, cond}
-use mathlib.Core.List.{List, [], _∷_, _++_, map}
+use mathlib.Core.Path.{_≡_, refl, sym, subst, _∙_}
+use mathlib.Core.Bool.{cond}
+use mathlib.Core.List.{List, [], _∷_, map}
 use mathlib.Core.Logic.{inl, inr}
-use Prim.Native.Nat.{ℕ, zero, suc, _+_, _-_, _*_, _/_, _^_, _≤_, _<_}
+use Prim.Native.Nat.{ℕ, zero, suc, _+_, _-_, _*_, _^_, _≤_, _<_}
 use native.Mathlib.Nat.{div-le-self}
 use native.Mathlib.Omega.{arith}
-use lib.ListN.{length, take}
-use Rattle.std.specs.Written.{decimal}
+use lib.ListN.{length}
 use Rattle.std.specs.shelf.Maps.{nth}
 use Rattle.std.specs.declared.option.Option.{Option}
 use Rattle.std.specs.declared.option.Option.the-variants.{Some, None}
@@ -19,10 +18,9 @@ use Rattle.planning.specs.Meaning.{Meaning, Lawful}
 use Rattle.planning.specs.Finding.{found, place-of}
 use Rattle.planning.specs.Ranks.{act-of, brings, largest, rank-by, within}
 use Rattle.planning.proofs.Deepest.{deepest-most}
-use Rattle.planning.proofs.Lists.{none-some, place-below}
+use Rattle.planning.proofs.Lists.{place-below}
 use Rattle.planning.proofs.Ranking.{first-lowest}
 use Rattle.planning.proofs.Seen.{placed}
-use Rattle.session.specs.declared.plain.Row.{Row}
 use Rattle.session.specs.declared.plain.Standing.{Standing}
 use Rattle.session.specs.declared.plain.Standing.the-variants.{Working, NoPlan, Found, Full}
 use Rattle.session.specs.ClosedForm.{known, known-rows, progress, row-by, standing-of}

@@ -13,10 +13,11 @@ line-number (Ok _) = 0
 line-number (Err LineStop.Short) = 18
 line-number (Err LineStop.Working) = 9
 
--- the refusal that is due for a buffer that is short or not, where the search stands so: the buffer comes first
-abbrev pub line-stop : Bool → Standing → ℕ
-line-stop true st = 18
-line-stop false Working = 9
-line-stop false NoPlan = 0
-line-stop false (Found d) = 0
-line-stop false (Full f) = 0
+-- the answer for a line of n bytes, by whether the buffer is short and where the search stands: a short buffer is refused
+-- first
+abbrev pub line-answer : Bool → Standing → ℕ → Result ℕ LineStop
+line-answer true st n = Err LineStop.Short
+line-answer false Working n = Err LineStop.Working
+line-answer false NoPlan n = Ok n
+line-answer false (Found d) n = Ok n
+line-answer false (Full f) n = Ok n

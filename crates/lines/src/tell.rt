@@ -111,16 +111,12 @@ pub(crate) fn told<B: Book>(session: &Session<'_, B::State>, book: &B, index: us
 {
     let progress = session.progress();
     let states = session.states();
+    let rows = session.rows();
     if index == 0 {
         return first_line(progress, states.len());
     }
     match progress.standing {
-        Standing::NoPlan | Standing::Found(_) => place_line(
-            book,
-            states,
-            session.rows(),
-            index - 1,
-        ),
+        Standing::NoPlan | Standing::Found(_) => place_line(book, states, rows, index - 1),
         _ => Text::new(),
     }
 }
