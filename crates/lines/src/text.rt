@@ -6,6 +6,7 @@ ghost use Prim.Native.Nat.{_≤_};
 ghost use lib.ListN.{drop, length};
 ghost use Rattle.std.specs.Written.{decimal};
 ghost use Rattle.lines.specs.Texts.{Adds, text};
+ghost use Rattle.lines.specs.Words.{number-word, spaced};
 
 // The most bytes that a line needs.
 pub(crate) const ROOM: usize = 64;
@@ -55,6 +56,24 @@ impl Text {
             self.number(n / 10);
         }
         self.byte(b'0' + (n % 10) as u8);
+    }
+
+    // Writes a space and a number.
+    pub(crate) fn next(&mut self, n: usize)
+        ensures { λ _. ⌜ Adds (now (self .entry)) (spaced (decimal n ∷ [])) (now (self .exit)) ⌝ }
+    {
+        self.byte(b' ');
+        self.number(n);
+    }
+
+    // Writes a space, and a number or a dash for a blank.
+    pub(crate) fn next_or_blank(&mut self, n: Option<usize>)
+        ensures { λ _. ⌜ Adds (now (self .entry)) (spaced (number-word n ∷ [])) (now (self .exit)) ⌝ }
+    {
+        match n {
+            Some(n) => self.next(n),
+            None => self.word(b" -"),
+        }
     }
 
     // Puts the text at the beginning of the buffer, and tells its length.
