@@ -43,7 +43,8 @@ abbrev pub told : Result MoveTable TableFault → Result Table TableFault
 told (Ok t) = Ok (held t)
 told (Err f) = Err f
 
--- the outcomes are all that the rows give, in their order, and a look-up takes as many halvings as the number of rows has binary digits
+-- the outcomes are all that the rows give, in their order, and a look-up takes no more halvings than the number of rows has binary
+-- digits
 pub record Faithful (t : Table) : Type 0 where
   pub all-rows : (s : Spot) (a : ℕ) → table-meaning t .outcomes s a ≡ targets (rows-of (t .rows) s a)
   pub halvings : (s : Spot) (a k : ℕ) → length (t .rows) < 2 ^ k → seek (t .rows) s a k 0 (length (t .rows)) ≡ first-row (t .rows) s a
