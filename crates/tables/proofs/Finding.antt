@@ -1,8 +1,8 @@
 -- In rows that are in order, the look-up finds all rows of a spot and an act. Assumes nothing.
 use mathlib.Core.Path.{_≡_, refl, sym, ap, subst, _∙_}
-use mathlib.Core.Bool.{Bool, true, false, cond}
+use mathlib.Core.Bool.{Bool, true, false}
 use mathlib.Core.List.{List, [], _∷_, _++_}
-use mathlib.Core.Logic.{_⊎_, inl, inr}
+use mathlib.Core.Logic.{inl, inr}
 use Prim.Native.Nat.{ℕ, zero, suc, _+_, _-_, _*_, _^_, _≤_, _<_}
 use native.Mathlib.Nat.{pow-suc}
 use native.Mathlib.Omega.{arith}
@@ -14,11 +14,9 @@ use Rattle.std.proofs.shelf.Maps.{nth-past}
 use Rattle.std.proofs.shelf.Tests.{both-ways, cases-bool, cases-lt, cond-false, cond-true}
 use Rattle.std.specs.shelf.Lists.{All, kept-by}
 use Rattle.std.specs.shelf.Maps.{nth}
-use Rattle.std.specs.declared.option.Option.{Option}
-use Rattle.std.specs.declared.option.Option.the-variants.{Some, None}
 use Rattle.tables.specs.Looking.{block, early, first-row, front, middle, seek}
 use Rattle.tables.specs.Places.{passes}
-use Rattle.tables.specs.Rows.{falls, leads, precedes, rows-of}
+use Rattle.tables.specs.Rows.{leads, precedes, rows-of}
 use Rattle.tables.specs.declared.spot.Spot.{Spot}
 use Rattle.tables.specs.declared.row.TableRow.{TableRow}
 use Rattle.tables.proofs.Lists.{all-from, cond-same, kept-none, nth-drop, taken}

@@ -11,7 +11,7 @@ use denote.Ref.{RefT, now}
 use Rattle.std.specs.Options.{mapped}
 use Rattle.std.specs.Places.{Item}
 use Rattle.std.proofs.shelf.Maps.{nth-getD, nth-past}
-use Rattle.std.proofs.shelf.Tests.{both-ways, cases-bool, cases-lt, cond-false, cond-true, le-leb, lt-leb, leb-true, leb-false}
+use Rattle.std.proofs.shelf.Tests.{cases-bool, cases-lt, cond-false, cond-true, le-leb, lt-leb, leb-true}
 use Rattle.std.specs.shelf.Lists.{All, kept-by}
 use Rattle.std.specs.shelf.Maps.{nth}
 use Rattle.std.specs.declared.option.Option.{Option}
@@ -73,10 +73,6 @@ module _ {A : Type 0} (p : A → Bool) where
   pub kept-every : (xs : List A) → All (λ x. p x ≡ true) xs → kept-by p xs ≡ xs
   kept-every [] h = refl
   kept-every (x ∷ xs) h = cond-true (p x) _ _ (h .0) ∙ ap (λ ys. x ∷ ys) (kept-every xs (h .1))
-
-  pub kept-most : (xs : List A) → length (kept-by p xs) ≤ length xs
-  kept-most [] = omega arith
-  kept-most (x ∷ xs) = elim (cases-bool (p x)) [ inl t ↦ rw t (omega (arith, kept-most xs)) | inr f ↦ rw f (omega (arith, kept-most xs)) ]
 
   pub passes-all : (xs : List A) (i : ℕ) → All (λ x. p x ≡ true) xs → i < length xs → passes p (nth xs i) ≡ true
   passes-all [] i h l = absurd (omega arith)

@@ -1,8 +1,8 @@
 -- A table is accepted exactly if it is well made, and then its look-ups find all rows. Assumes nothing.
-use mathlib.Core.Path.{_≡_, refl, sym, ap, subst, _∙_}
+use mathlib.Core.Path.{_≡_, refl, sym, ap, _∙_}
 use mathlib.Core.Bool.{Bool, true, false, cond, _&&_}
-use mathlib.Core.List.{List, [], _∷_, map}
-use mathlib.Core.Logic.{_⊎_, inl, inr}
+use mathlib.Core.List.{List, []}
+use mathlib.Core.Logic.{inl, inr}
 use Prim.Native.Nat.{ℕ, zero, suc, _+_, _≤_, _<_, min}
 use native.Mathlib.Numerals.{add-one}
 use native.Mathlib.Omega.{arith}
@@ -21,7 +21,7 @@ use Rattle.std.specs.declared.option.Option.{Option}
 use Rattle.std.specs.declared.option.Option.the-variants.{Some, None}
 use Rattle.planning.specs.Ranks.{every}
 use Rattle.planning.proofs.Lists.{none-some, place-below}
-use Rattle.tables.specs.Books.{Faithful, outcomes}
+use Rattle.tables.specs.Books.{Faithful}
 use Rattle.tables.specs.Places.{back, passes}
 use Rattle.tables.specs.Rows.{falls, fits, leads, rows-of, targets}
 use Rattle.tables.specs.Spots.{within}

@@ -13,7 +13,7 @@ use Rattle.planning.specs.Meaning.{Meaning}
 use Rattle.tables.specs.Places.{passes}
 use Rattle.tables.specs.Spots.{same-spot, within}
 use Rattle.tables.specs.Rows.{rows-of, targets}
-use Rattle.tables.specs.Tables.{Table}
+use Rattle.tables.specs.Tables.{Table, table-of}
 use Rattle.tables.specs.Looking.{block, first-row, seek}
 use Rattle.tables.specs.declared.spot.Spot.{Spot}
 use Rattle.tables.specs.declared.table.MoveTable.{MoveTable}
@@ -36,14 +36,15 @@ table-meaning t =
 
 -- a table over lent lists by what it holds
 abbrev pub held : MoveTable → Table
-held t = record { acts = t .acts; start = t .start; wanted = now (t .wanted); rows = now (t .rows) }
+held t = table-of (t .acts) (t .start) (now (t .wanted)) (now (t .rows))
 
 -- what the making of a table over lent lists has answered
 abbrev pub told : Result MoveTable TableFault → Result Table TableFault
 told (Ok t) = Ok (held t)
 told (Err f) = Err f
 
--- the outcomes are all that the rows give, in their order, and a look-up takes as many halvings as the number of rows has binary digits
+-- the outcomes are all that the rows give, in their order, and a look-up takes no more halvings than the number of rows has binary
+-- digits
 pub record Faithful (t : Table) : Type 0 where
-  pub all-rows : (s : Spot) (a : ℕ) → outcomes t s a ≡ targets (rows-of (t .rows) s a)
+  pub all-rows : (s : Spot) (a : ℕ) → table-meaning t .outcomes s a ≡ targets (rows-of (t .rows) s a)
   pub halvings : (s : Spot) (a k : ℕ) → length (t .rows) < 2 ^ k → seek (t .rows) s a k 0 (length (t .rows)) ≡ first-row (t .rows) s a

@@ -24,7 +24,7 @@ module _ (rows : List TableRow) (s : Spot) (a : ℕ) where
   abbrev pub early : ℕ → Bool
   early i = passes (λ r. precedes (r .from) (r .act) s a) (nth rows i)
 
-  -- the place where rows stop coming before act a in spot s, looked for from low up to high by n halvings
+  -- the place where rows stop coming before act a in spot s, looked for from low up to high by at most n halvings
   abbrev pub seek : ℕ → ℕ → ℕ → ℕ
   seek zero low high = low
   seek (suc n) low high =
@@ -32,7 +32,7 @@ module _ (rows : List TableRow) (s : Spot) (a : ℕ) where
       (cond (early (middle low high)) (seek n (suc (middle low high)) high) (seek n low (middle low high)))
       low
 
-  -- the place of the first row that does not come before act a in spot s
+  -- where that search ends: in rows that are in order, at the first row that does not come before act a in spot s
   abbrev pub first-row : ℕ
   first-row = seek (length rows) 0 (length rows)
 

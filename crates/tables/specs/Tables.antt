@@ -1,7 +1,7 @@
 -- Which tables are well made, and what is told of the others. Assumes nothing.
 use mathlib.Core.Path.{_≡_}
-use mathlib.Core.Bool.{Bool, true, false, cond, not, _&&_, _||_}
-use mathlib.Core.List.{List, [], _∷_}
+use mathlib.Core.Bool.{Bool, cond, not, _&&_, _||_}
+use mathlib.Core.List.{List}
 use Prim.Native.Nat.{ℕ, zero, suc, _≤_, _<_}
 use lib.Dec.{eqb, leb, ltb}
 use lib.ListN.{length, take}
@@ -25,6 +25,10 @@ pub record Table : Type 0 where
   pub start : Spot
   pub wanted : List ℕ
   pub rows : List TableRow
+
+-- the table of these parts
+abbrev pub table-of : ℕ → Spot → List ℕ → List TableRow → Table
+table-of acts start wanted rows = record { acts = acts; start = start; wanted = wanted; rows = rows }
 
 -- zone and level are at most 63
 pub record Within (s : Spot) : Type 0 where

@@ -4,10 +4,25 @@ ghost use mathlib.Core.Path.{_≡_};
 ghost use lib.ListN.{length};
 ghost use Rattle.tables.specs.Checking.{wrong-beside, wrong-here};
 ghost use Rattle.tables.specs.Places.{back};
-ghost use Rattle.tables.specs.Tables.{first-wrong, levels-fit, table-fault};
+ghost use Rattle.tables.specs.Tables.{first-wrong, levels-fit, table-fault, table-of};
 use crate::fault::TableFault;
 use crate::row::TableRow;
 use crate::spot::Spot;
+
+/// How many acts a table may have.
+pub(crate) const MOST_ACTS: u8 = 16;
+
+/// How many rows one spot and act may have.
+pub(crate) const MOST_OUTCOMES: u8 = 8;
+
+/// How many rows a table may have.
+const MOST_ROWS: usize = 32768;
+
+/// How many zones there are, each with its wanted level.
+const ZONES: usize = 64;
+
+/// The highest wanted level, which no spot reaches.
+const NEVER: u8 = 64;
 
 /// The first fault of a table, in the order of the cases.
 pub(crate) fn first_fault(
@@ -16,9 +31,9 @@ pub(crate) fn first_fault(
     wanted: &[u8],
     rows: &[TableRow],
 ) -> Option<TableFault>
-    ensures { λ r. ⌜ r ≡ table-fault (record { acts = acts; start = start; wanted = now (wanted .entry); rows = now (rows .entry) }) ⌝ }
+    ensures { λ r. ⌜ r ≡ table-fault (table-of acts start (now (wanted .entry)) (now (rows .entry))) ⌝ }
 {
-    if acts > 16 {
+    if acts > MOST_ACTS {
         return Some(TableFault::Acts);
     }
     if !start.within() {
@@ -27,7 +42,7 @@ pub(crate) fn first_fault(
     if !levels_fit(wanted) {
         return Some(TableFault::Wanted);
     }
-    if rows.len() > 32768 {
+    if rows.len() > MOST_ROWS {
         return Some(TableFault::Rows);
     }
     match first_wrong(acts, rows) {
@@ -40,11 +55,11 @@ pub(crate) fn first_fault(
 fn levels_fit(wanted: &[u8]) -> bool
     ensures { λ r. ⌜ r ≡ levels-fit (now (wanted .entry)) ⌝ }
 {
-    if wanted.len() != 64 {
+    if wanted.len() != ZONES {
         return false;
     }
     for i in 0..wanted.len() {
-        if wanted[i] > 64 {
+        if wanted[i] > NEVER {
             return false;
         }
     }
@@ -68,7 +83,12 @@ fn wrong_at(acts: u8, rows: &[TableRow], i: usize) -> bool
     ensures { λ r. ⌜ r ≡ wrong-here acts (now (rows .entry)) i ⌝ }
 {
     match rows.get(i).copied() {
-        Some(row) => wrong_beside(acts, back(rows, 1, i), back(rows, 8, i), row),
+        Some(row) => wrong_beside(
+            acts,
+            back(rows, 1, i),
+            back(rows, MOST_OUTCOMES as usize, i),
+            row,
+        ),
         None => false,
     }
 }

@@ -6,6 +6,8 @@ mod looking;
 mod row;
 mod spot;
 mod table;
+#[cfg(test)]
+mod tests;
 
 pub use fault::TableFault;
 pub use row::TableRow;

@@ -5,7 +5,9 @@ ghost use Rattle.std.specs.Orderings.{Decides};
 ghost use Rattle.std.specs.Results.{isOk};
 ghost use Rattle.std.specs.Vec.{made};
 ghost use Rattle.tables.specs.Books.{Faithful, held, table-meaning, told};
-ghost use Rattle.tables.specs.Tables.{Well-made, table-answer};
+ghost use Rattle.tables.specs.Tables.{Well-made, table-answer, table-of};
+use crate::checking::MOST_ACTS;
+use crate::checking::MOST_OUTCOMES;
 use crate::checking::first_fault;
 use crate::fault::TableFault;
 use crate::looking::first_row;
@@ -13,9 +15,6 @@ use crate::looking::target;
 use crate::row::TableRow;
 use crate::spot::Spot;
 use planning::Book;
-
-/// How many outcomes an act may have in a spot.
-const MOST_OUTCOMES: u8 = 8;
 
 /// A book of moves between spots, over lists that its maker lends.
 #[derive(Clone, Copy)]
@@ -37,8 +36,8 @@ impl<'a> MoveTable<'a> {
         wanted: &'a [u8],
         rows: &'a [TableRow],
     ) -> Result<MoveTable<'a>, TableFault>
-        ensures answer { λ r. ⌜ told r ≡ table-answer (record { acts = acts; start = start; wanted = now (wanted .entry); rows = now (rows .entry) }) ⌝ }
-        ensures accepted { λ r. ⌜ Decides (isOk r) (Well-made (record { acts = acts; start = start; wanted = now (wanted .entry); rows = now (rows .entry) })) ⌝ }
+        ensures answer { λ r. ⌜ told r ≡ table-answer (table-of acts start (now (wanted .entry)) (now (rows .entry))) ⌝ }
+        ensures accepted { λ r. ⌜ Decides (isOk r) (Well-made (table-of acts start (now (wanted .entry)) (now (rows .entry)))) ⌝ }
         ensures faithful { λ r. ⌜ made r (λ t. Faithful (held t)) ⌝ }
     {
         match first_fault(acts, start, wanted, rows) {
@@ -63,11 +62,11 @@ pub impl<'a> Book for MoveTable<'a> as TableBook {
     }
 
     fn acts(&self) -> u8 {
-        self.acts.min(16)
+        self.acts.min(MOST_ACTS)
     }
 
     fn outcome(&self, s: Spot, act: u8, number: u8) -> Option<Spot> {
-        if !s.within() || act >= self.acts.min(16) || number >= MOST_OUTCOMES {
+        if !s.within() || act >= self.acts() || number >= MOST_OUTCOMES {
             return None;
         }
         target(self.rows, first_row(self.rows, s, act), s, act, number)
