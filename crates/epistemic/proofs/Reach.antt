@@ -3,11 +3,8 @@ use mathlib.Core.Path.{_≡_, refl, sym, ap, ap₂, subst, _∙_}
 use mathlib.Core.Bool.{Bool, true, false, cond, not, _&&_, _||_, and-false}
 use mathlib.Core.List.{List, [], _∷_, List·Memᴰ·head, List·Memᴰ·tail}
 use mathlib.Core.Logic.{inl, inr}
-use Prim.Native.Nat.{ℕ, zero, suc, _^_, _<_}
-use native.Mathlib.Omega.{arith}
-use lib.Bits.{bitOr}
+use Prim.Native.Nat.{ℕ, _^_, _<_}
 use lib.Dec.{T, eqb, eqb→eq, eqb-refl}
-use Rattle.std.proofs.shelf.Tests.{cases-lt}
 use Rattle.epistemic.specs.Lists.{_∈_, every, some, implies}
 use Rattle.epistemic.specs.Bits.{bit, image}
 use Rattle.sheets.specs.Formulas.{top}

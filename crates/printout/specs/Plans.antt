@@ -17,5 +17,5 @@ module _ {S : Type 0} (m : Meaning S) where
   all-lines n u = first-lines n u (suc (length (known m n u)))
 
   -- what is printed of a book: 4,096 places, and more units than a search in so many places can take
-  abbrev pub plan-text : List ℕ
+  unfoldable pub plan-text : List ℕ
   plan-text = all-lines 4096 4294967295

@@ -1,4 +1,3 @@
-use mathlib.Core.Path.{_≡_}
 use lib.ListN.{length}
 use Rattle.knowledge.proofs.Updating.{So-far}
 use Rattle.knowledge.proofs.update.updated.Given as given
