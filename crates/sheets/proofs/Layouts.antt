@@ -89,7 +89,7 @@ header-only bs e =
       high = leb-true (length bs) 16384 (s .1);
       features = ask-true (features-fit (getD bs 0 0)) sheet-fault.Features (q .0);
       acts = ask-true (acts-fit (getD bs 1 0)) sheet-fault.Acts (r .0);
-      room = leb-true (header-end (getD bs 1 0)) (length bs) (ask-true room sheet-fault.Header (r .1))
+      room = leb-true (header-end (getD bs 1 0)) (length bs) (ask-true room sheet-fault.Header (r .1));
     }
 
 header-all : (bs : List ℕ) → Header-right bs → header-check bs ≡ Ok tt
@@ -134,7 +134,7 @@ passed-only bs e =
       pairs = sym (ap (pairs-check bs (header-end a)) (numbers-are a)) ∙ q .0;
       start = t .0;
       goal = u .0;
-      acts = u .1
+      acts = u .1;
     }
 
 passed-all : (bs : List ℕ) → Passed bs → sheet-check bs ≡ Ok tt
@@ -177,7 +177,7 @@ laid (n ∷ a ∷ xs) p =
       start = s .1;
       goal = g .0;
       goal-short = g .1;
-      acts-spelled = acts-only bs m 2 a (omega arith) (p .acts)
+      acts-spelled = acts-only bs m 2 a (omega arith) (p .acts);
     }
 
 -- a sheet that is laid out passes, and says its parts
@@ -229,7 +229,7 @@ module _ (bs : List ℕ) (p : Parts) (l : Laid-out bs p) where
         pairs = found .0;
         start = start-all (p .features) (section-bytes sheet 0) (ap length mask-here ∙ l .mask-size) (ap (start-fits (p .features)) start-here ∙ l .start);
         goal = ap (formula-check (p .features) 0) goal-here ∙ formula-all (p .features) letters 0 (p .goal) (l .goal) (l .goal-short);
-        acts = acts-here .0
+        acts = acts-here .0;
       }
 
   read-here : read-sheet sheet ≡ Ok p
