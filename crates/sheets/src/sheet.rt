@@ -3,7 +3,7 @@
 ghost use mathlib.Core.Path.{_≡_};
 ghost use Prim.Native.Nat.{_≤_};
 ghost use lib.ListN.{getD, length};
-ghost use mathlib.Core.Bool.{Bool};
+ghost use Rattle.sheets.specs.Layout.{Accepts-layout};
 ghost use Rattle.sheets.specs.Reading.{act-bytes, answered, header-check, pair-fits, pairs-check, parts, parts-at, read-sheet, section-numbers, sections-check};
 ghost use Rattle.sheets.specs.Rules.{ending as ending-of, header-end};
 use crate::fault::SheetFault;
@@ -29,7 +29,8 @@ pub struct Sheet<'a> {
 impl<'a> Sheet<'a> {
     /// Reads a sheet. Refused with the first fault: of the header, then of the pairs, then of the sections in order.
     pub fn read(bytes: &'a [u8]) -> Result<Sheet<'a>, SheetFault>
-        ensures { λ r. ⌜ answered r ≡ read-sheet (now (bytes .entry)) ⌝ }
+        ensures answer { λ r. ⌜ answered r ≡ read-sheet (now (bytes .entry)) ⌝ }
+        ensures layout { λ r. ⌜ Accepts-layout (now (bytes .entry)) (answered r) ⌝ }
     {
         check_header(bytes)?;
         check_pairs(bytes)?;
