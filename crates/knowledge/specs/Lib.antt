@@ -1,3 +1,5 @@
-pub mod Reading
+pub mod Texts
 pub mod Judging
 pub mod Acting
+pub mod Books
+pub mod Claims

@@ -5,7 +5,7 @@ ghost use mathlib.Core.Bool.{cond};
 ghost use mathlib.Core.Path.{_≡_};
 ghost use Rattle.epistemic.specs.Cells.{letter-mask, truth};
 ghost use Rattle.knowledge.specs.Judging.{Judged};
-ghost use Rattle.knowledge.specs.Reading.{atom, read};
+ghost use Rattle.knowledge.specs.Texts.{atom, read};
 
 /// The valuations of the cell, as a mask, at which the formula holds that the bytes begin with, and the bytes after it.
 ///

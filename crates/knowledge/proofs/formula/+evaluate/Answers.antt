@@ -9,7 +9,7 @@ use Rattle.std.proofs.shelf.Lists.{nil-from-length}
 use Rattle.std.proofs.shelf.Tests.{ltb-true, ltb-false}
 use Rattle.sheets.specs.Formulas.{neg, and, or, K, M}
 use Rattle.epistemic.specs.Cells.{truth}
-use Rattle.knowledge.specs.Reading.{atom, alone, one, two, read}
+use Rattle.knowledge.specs.Texts.{atom, alone, one, two, read}
 use Rattle.knowledge.proofs.Readings.{read-first, rest-shorter, other-sign}
 use Rattle.knowledge.proofs.Judgements.{judged}
 use Rattle.knowledge.proofs.formula.+evaluate.Needs as need
