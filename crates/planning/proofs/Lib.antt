@@ -11,5 +11,6 @@ pub mod Ranking
 pub mod Deepest
 pub mod Bridges
 pub mod Seeking
+pub mod Seen
 pub mod Growth
 pub mod Settled

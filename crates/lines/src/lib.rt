@@ -1,0 +1,3 @@
+//! The lines that tell how a search ended.
+
+mod text;
