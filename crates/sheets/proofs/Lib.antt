@@ -5,3 +5,5 @@ mod Masks
 pub mod Judging
 pub mod Walking
 mod Acting
+mod Spreading
+mod Layouts
