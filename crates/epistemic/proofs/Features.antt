@@ -2,10 +2,10 @@
 use mathlib.Core.Path.{_≡_, refl, sym, ap, ap₂, subst, _∙_}
 use mathlib.Core.Bool.{Bool, true, false, cond, not, _&&_, _||_}
 use mathlib.Core.Logic.{inl, inr}
-use Prim.Native.Nat.{ℕ, _-_, _+_, _*_, _/_, _%_, _^_, _≤_, _<_}
+use Prim.Native.Nat.{ℕ, _-_, _+_, _*_, _/_, _%_, _^_, _<_}
 use native.Mathlib.Omega.{arith}
-use lib.Bits.{bitAnd, bitOr, bitXor, or-disjoint}
-use lib.Dec.{T, T-not, not-T, eqb, eqb→eq, eqb-refl}
+use lib.Bits.{bitAnd, bitOr, or-disjoint}
+use lib.Dec.{T, T-not, eqb, eqb→eq}
 use Rattle.std.proofs.shelf.Tests.{cases-eq, eq-eqb, ne-eqb}
 use Rattle.epistemic.specs.Bits.{bit, image, put}
 use Rattle.epistemic.specs.Cells.{letter-mask}
@@ -42,11 +42,11 @@ module _ (i : ℕ) (b : Bool) (v : ℕ) where
       here : (j : ℕ) → j ≡ i → cond (eqb j i) b (bit v j) ≡ bit v j
       here j is = ap (λ c. cond c b (bit v j)) (eq-eqb j i is) ∙ sym e ∙ ap (bit v) (sym is)
 
-  pub bit-put-here : bit (put i b v) i ≡ b
+  bit-put-here : bit (put i b v) i ≡ b
   bit-put-here = bit-put i b v i ∙ ap (λ c. cond c b (bit v i)) (eq-eqb i i refl)
 
   -- setting it again undoes the first
-  pub put-again : (c : Bool) → put i c (put i b v) ≡ put i c v
+  put-again : (c : Bool) → put i c (put i b v) ≡ put i c v
   put-again c = same-bits (put i c (put i b v)) (put i c v) (λ j. bit-put i c (put i b v) j ∙ ap (cond (eqb j i) c) (bit-put i b v j) ∙ go (eqb j i) (bit v j) ∙ sym (bit-put i c v j))
     where
       go : (x y : Bool) → cond x c (cond x b y) ≡ cond x c y

@@ -1,8 +1,8 @@
 -- The masks of letters: as constants, and that those of more features serve for fewer. Assumes nothing.
 use mathlib.Core.Path.{_≡_, refl, sym, ap, ap₂, _∙_}
-use mathlib.Core.Bool.{Bool, true, false, cond}
+use mathlib.Core.Bool.{cond}
 use mathlib.Core.Logic.{inl, inr}
-use Prim.Native.Nat.{ℕ, _^_, _≤_, _<_}
+use Prim.Native.Nat.{ℕ, _^_, _≤_}
 use native.Mathlib.Omega.{arith}
 use lib.Bits.{bitAnd, bitOr, bitXor}
 use lib.Dec.{eqb}
@@ -50,7 +50,7 @@ letter-past n i h =
 
 module _ (n k c : ℕ) (more : n ≤ k) (fits : Fit n c) where
   -- a cell over n features is one over more
-  pub fits-wider : Fit k c
+  fits-wider : Fit k c
   fits-wider = omega (arith, pow-mono (pow-mono more))
 
   letters-wider : (i : ℕ) → bitAnd c (letter-mask k i) ≡ bitAnd c (letter-mask n i)

@@ -3,11 +3,8 @@ use mathlib.Core.Path.{_≡_, refl, sym, ap, ap₂, subst, _∙_}
 use mathlib.Core.Bool.{Bool, true, false, cond, not, _&&_, _||_, and-false}
 use mathlib.Core.List.{List, [], _∷_, List·Memᴰ·head, List·Memᴰ·tail}
 use mathlib.Core.Logic.{inl, inr}
-use Prim.Native.Nat.{ℕ, zero, suc, _^_, _<_}
-use native.Mathlib.Omega.{arith}
-use lib.Bits.{bitOr}
+use Prim.Native.Nat.{ℕ, _^_, _<_}
 use lib.Dec.{T, eqb, eqb→eq, eqb-refl}
-use Rattle.std.proofs.shelf.Tests.{cases-lt}
 use Rattle.epistemic.specs.Lists.{_∈_, every, some, implies}
 use Rattle.epistemic.specs.Bits.{bit, image}
 use Rattle.sheets.specs.Formulas.{top}
@@ -20,7 +17,7 @@ use Rattle.epistemic.proofs.Bits.{bit-none, bit-or, bit-below, below-bits, mas
 use Rattle.epistemic.proofs.Images.{or-from, or-into-left, or-into-right, gated-from, gated-to, image-from, image-to}
 use Rattle.epistemic.proofs.Truths.{truth-bit, truth-from, all-pass}
 
-pub moved-below : (n : ℕ) (e : Event) (v : ℕ) → moved n e v < 2 ^ n
+moved-below : (n : ℕ) (e : Event) (v : ℕ) → moved n e v < 2 ^ n
 moved-below n e v = mask-below n (new-bit e v)
 
 module _ (n c : ℕ) where

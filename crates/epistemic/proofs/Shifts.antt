@@ -1,11 +1,11 @@
 -- The bits of shifted, cut and inverted numbers. Assumes nothing.
-use mathlib.Core.Path.{_≡_, refl, sym, ap, ap₂, subst, _∙_}
-use mathlib.Core.Bool.{Bool, true, false, not, _&&_, and-true}
+use mathlib.Core.Path.{_≡_, sym, ap, subst, _∙_}
+use mathlib.Core.Bool.{true, false, not, _&&_, and-true}
 use mathlib.Core.Logic.{inl, inr}
-use Prim.Native.Nat.{ℕ, zero, suc, _-_, _+_, _*_, _/_, _%_, _^_, _≤_, _<_}
-use native.Mathlib.Nat.{pow-suc, add-comm}
+use Prim.Native.Nat.{ℕ, zero, suc, _-_, _+_, _*_, _/_, _%_, _^_, _<_}
+use native.Mathlib.Nat.{pow-suc}
 use native.Mathlib.Omega.{arith}
-use lib.Bits.{bitAnd, and-mask, shifted-half, shifted-even}
+use lib.Bits.{and-mask, shifted-half, shifted-even}
 use lib.Dec.{T, eqb}
 use Rattle.std.proofs.shelf.Bits.{pow-pos, shl-shr, shr-shr, mod-below}
 use Rattle.std.proofs.shelf.Tests.{cases-lt}

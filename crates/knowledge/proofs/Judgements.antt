@@ -1,8 +1,8 @@
 -- A formula's mask is where the cell's model satisfies it. Assumes nothing.
 use mathlib.Core.Path.{_≡_, sym, ap, subst, _∙_}
-use mathlib.Core.List.{List, _++_}
+use mathlib.Core.List.{List}
 use Prim.Native.Nat.{ℕ, _≤_}
-use Rattle.sheets.specs.Formulas.{Formula, Spells}
+use Rattle.sheets.specs.Formulas.{Formula}
 use Rattle.epistemic.specs.Cells.{Fit, truth}
 use Rattle.epistemic.specs.Claims.{Satisfied-at}
 use Rattle.epistemic.proofs.Letters.{truth-wider}

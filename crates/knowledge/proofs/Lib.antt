@@ -5,3 +5,5 @@ pub mod Numbered
 pub mod Cells
 pub mod Meanings
 pub mod Contents
+pub mod Moving
+pub mod Landing

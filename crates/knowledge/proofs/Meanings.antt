@@ -1,11 +1,11 @@
 -- The meaning of a knowledge book is lawful, and its answers are those of the published theory. Assumes nothing.
 use mathlib.Core.Path.{_≡_, refl, sym, ap, ap₂, subst, _∙_}
 use mathlib.Core.Bool.{Bool, true, false, cond, _&&_}
-use mathlib.Core.List.{List, [], _∷_, map}
+use mathlib.Core.List.{List, [], _∷_, map, List·Memᴰ·not-nil}
 use Prim.Native.Nat.{ℕ, _%_, _^_, _≤_, _<_}
 use native.Mathlib.Nat.{mod-eq-of-lt, min-le-right}
 use native.Mathlib.Omega.{arith}
-use lib.Dec.{T, eqb, eqb→eq, eqb-refl, ltb}
+use lib.Dec.{eqb, eqb→eq, eqb-refl, ltb}
 use lib.ListN.{length, getD, replicate}
 use Rattle.std.specs.Iters.{counting}
 use Rattle.std.specs.shelf.Lists.{kept-by}
@@ -13,17 +13,18 @@ use Rattle.std.proofs.shelf.Bits.{mod-below, pow-pos}
 use Rattle.std.proofs.shelf.Tests.{ltb-true, lt-ltb, le-ltb}
 use Rattle.planning.specs.Meaning.{Alike, Lawful}
 use Rattle.sheets.specs.Events.{Entry}
-use Rattle.sheets.specs.Formulas.{Formula, Spells}
+use Rattle.sheets.specs.Formulas.{Formula}
 use Rattle.sheets.specs.Reading.{Parts}
-use Rattle.epistemic.specs.Cells.{fit, goal, truth}
-use Rattle.epistemic.specs.Acts.{Event, Proper, nonempty, possible, outcome, outcomes}
+use Rattle.epistemic.specs.Lists.{_∈_}
+use Rattle.epistemic.specs.Cells.{fit, Proper-cell, goal, truth}
+use Rattle.epistemic.specs.Acts.{Proper, nonempty, possible, outcome, outcomes}
 use Rattle.epistemic.specs.Claims.{Outcomes-explained}
 use Rattle.epistemic.proofs.Tests.{eqb-from}
 use Rattle.epistemic.proofs.Lists.{map-from}
 use Rattle.epistemic.proofs.Letters.{truth-wider}
 use Rattle.epistemic.proofs.Truths.{goal-valid}
 use Rattle.epistemic.proofs.Sameness.{equal-if-bisimilar}
-use Rattle.epistemic.proofs.Outcomes.{outcomes-explained, few, outside-none, outside-no-goal, empty-none, empty-goal}
+use Rattle.epistemic.proofs.Outcomes.{outcomes-explained, outcome-proper, few, outside-none, outside-no-goal, empty-none, empty-goal}
 use Rattle.knowledge.specs.Texts.{read}
 use Rattle.knowledge.specs.Acting.{event-of}
 use Rattle.knowledge.specs.Books.{letters, act-count, events-at, goal-formula, outcomes-at, class-masks, book-meaning}
@@ -41,6 +42,9 @@ events-proper n es =
 module _ (p : Parts) where
   abbrev n : ℕ
   n = letters p
+
+  pub book-events-proper : (a : ℕ) → Proper n (events-at p a)
+  book-events-proper a = events-proper n (getD (p .acts) a [])
 
   pub texts-read : Texts-read p
   texts-read =
@@ -71,11 +75,16 @@ module _ (p : Parts) where
   pub outcomes-right : (c a : ℕ) → Outcomes-right p c a
   outcomes-right c a =
       record {
-        proper = λ cell h. subst (Outcomes-explained n c (events-at p a)) (sym (below c a h)) (outcomes-explained n c (events-at p a) cell (events-proper n (getD (p .acts) a [])));
+        proper = λ cell h. subst (Outcomes-explained n c (events-at p a)) (sym (below c a h)) (outcomes-explained n c (events-at p a) cell (book-events-proper a));
+        cells = λ o i. member (ltb a (act-count p)) o i;
         empty = λ e. either c a (ap (λ x. outcomes n x (events-at p a)) e ∙ empty-none n (events-at p a));
         outside = λ h. either c a (outside-none n c (events-at p a) h);
         past = past c a;
       }
+    where
+      member : (b : Bool) (o : ℕ) → o ∈ cond b (outcomes n c (events-at p a)) [] → Proper-cell n o
+      member true o i = outcome-proper n c (events-at p a) o i
+      member false o i = absurd (List·Memᴰ·not-nil i)
 
   pub goal-right : (c : ℕ) → Goal-right p c (goal n (goal-formula p) c)
   goal-right c =
@@ -100,15 +109,16 @@ module _ (p : Parts) where
 
   -- the outcomes are the masks of the classes that are not empty
   pub kept-classes : (c a : ℕ) → kept-by nonempty (class-masks p c a) ≡ outcomes-at p c a
-  kept-classes c a = go (ltb a (act-count p)) (fit n c && eqb (possible n c (events-at p a)) c)
+  kept-classes c a = go (ltb a (act-count p)) (fit n c) (eqb (possible n c (events-at p a)) c)
     where
       all : List ℕ
       all = map (λ k. outcome n c k (events-at p a)) (counting 0 8)
 
-      go : (b t : Bool) → kept-by nonempty (cond (b && t) all (replicate 8 0)) ≡ cond b (cond t (kept-by nonempty all) []) []
-      go true true = refl
-      go true false = refl
-      go false t = refl
+      go : (b f t : Bool) → kept-by nonempty (cond ((b && f) && t) all (replicate 8 0)) ≡ cond b (cond (f && t) (kept-by nonempty all) []) []
+      go true true true = refl
+      go true true false = refl
+      go true false t = refl
+      go false f t = refl
 
   -- equal cells are the same
   alike-self : (xs : List ℕ) → Alike eqb xs xs

@@ -1,6 +1,6 @@
 -- How a formula is read sign by sign, and that the text of a formula is read as that formula. Assumes nothing.
-use mathlib.Core.Path.{_≡_, refl, sym, ap, subst, _∙_}
-use mathlib.Core.Bool.{Bool, true, false, cond, _&&_}
+use mathlib.Core.Path.{_≡_, refl, sym, ap, _∙_}
+use mathlib.Core.Bool.{false, cond, _&&_}
 use mathlib.Core.List.{List, [], _∷_, _++_, append-assoc, append-nil}
 use Prim.Native.Nat.{ℕ, zero, suc, _+_, _-_, _≤_, _<_}
 use native.Mathlib.Omega.{arith}
@@ -48,7 +48,7 @@ module _ (n : ℕ) where
       governed-same (read-within n k) (read-within n j) bs (within-shorter k bs) (λ cs s. enough k j cs (omega arith) (omega arith)) (sign n b)
 
   -- a text is read by its first sign
-  pub read-sign : (b : ℕ) (bs : List ℕ) (s : Sign) → sign n b ≡ s → read n (b ∷ bs) ≡ governed (read n) bs s
+  read-sign : (b : ℕ) (bs : List ℕ) (s : Sign) → sign n b ≡ s → read n (b ∷ bs) ≡ governed (read n) bs s
   read-sign b bs s e =
       ap (governed (read-within n (length bs)) bs) e
       ∙ governed-same (read-within n (length bs)) (read n) bs (within-shorter (length bs) bs) (λ cs l. enough (length bs) (length cs) cs l (omega arith)) s

@@ -1,7 +1,7 @@
 -- The masks of an act's classes, gathered event by event. Assumes nothing.
-use mathlib.Core.Path.{_≡_, refl, sym, ap, ap₂, subst, _∙_}
+use mathlib.Core.Path.{_≡_, sym, ap, subst, _∙_}
 use mathlib.Core.Bool.{Bool, true, false, cond}
-use mathlib.Core.List.{List, [], _∷_, map}
+use mathlib.Core.List.{List, _∷_, map}
 use mathlib.Core.Logic.{inl, inr}
 use Prim.Native.Nat.{ℕ, _%_, _^_, _<_}
 use native.Mathlib.Omega.{arith}
@@ -15,7 +15,7 @@ use Rattle.std.proofs.shelf.Counted.{fill-by-all}
 use Rattle.std.proofs.shelf.Tests.{cases-eq, eq-eqb, ne-eqb}
 use Rattle.sheets.specs.Events.{Entry, first-event}
 use Rattle.sheets.proofs.Splitting.{events-more, events-none}
-use Rattle.epistemic.specs.Acts.{Event, moved, possible, outcome}
+use Rattle.epistemic.specs.Acts.{moved, possible, outcome}
 use Rattle.epistemic.specs.Bits.{image}
 use Rattle.epistemic.specs.Cells.{truth}
 use Rattle.epistemic.proofs.Bits.{or-assoc}

@@ -1,10 +1,13 @@
 -- What a knowledge book means, from the parts of any sheet. Assumes nothing.
-use mathlib.Core.Bool.{cond, _&&_}
+use mathlib.Core.Bool.{Bool, cond, _&&_}
 use mathlib.Core.List.{List, [], map}
 use Prim.Native.Nat.{ℕ, min}
+use denote.Ref.{RefT, now}
 use lib.Dec.{eqb, ltb}
 use lib.ListN.{length, getD, replicate}
 use Rattle.std.specs.Iters.{counting}
+use Rattle.std.specs.declared.option.Option.{Option}
+use Rattle.std.specs.declared.option.Option.the-variants.{Some, None}
 use Rattle.sheets.specs.Formulas.{Formula}
 use Rattle.sheets.specs.Reading.{Parts, parts}
 use Rattle.planning.specs.Meaning.{Meaning}
@@ -31,6 +34,10 @@ module _ (p : Parts) where
   abbrev pub goal-formula : Formula
   goal-formula = read letters (p .goal) .formula
 
+  -- there is that act, and the mask has only valuations of the book's features
+  abbrev pub askable : ℕ → ℕ → Bool
+  askable c a = ltb a act-count && fit letters c
+
   -- the outcomes of an act in a cell; none for the acts past the last
   abbrev pub outcomes-at : ℕ → ℕ → List ℕ
   outcomes-at c a = cond (ltb a act-count) (outcomes letters c (events-at a)) []
@@ -38,7 +45,7 @@ module _ (p : Parts) where
   -- the new valuations of each class; empty in each where the act has no outcomes
   abbrev pub class-masks : ℕ → ℕ → List ℕ
   class-masks c a =
-      cond (ltb a act-count && (fit letters c && eqb (possible letters c (events-at a)) c)) (map (λ k. outcome letters c k (events-at a)) (counting 0 8)) (replicate 8 0)
+      cond (askable c a && eqb (possible letters c (events-at a)) c) (map (λ k. outcome letters c k (events-at a)) (counting 0 8)) (replicate 8 0)
 
   -- the book's states are cells, and equal cells are the same
   abbrev pub book-meaning : Meaning ℕ
@@ -47,3 +54,8 @@ module _ (p : Parts) where
 -- the parts that a book is made of
 abbrev pub content : KnowledgeBook → Parts
 content b = parts (b .sheet)
+
+-- the bytes that the program answers, if any
+abbrev pub bytes-of : Option (RefT (List ℕ)) → Option (List ℕ)
+bytes-of (Some bs) = Some (now bs)
+bytes-of None = None

@@ -7,10 +7,10 @@ use lib.Dec.{T}
 use Rattle.sheets.specs.Events.{Entry}
 use Rattle.sheets.specs.Formulas.{Formula, Spells}
 use Rattle.sheets.specs.Reading.{Parts}
+use Rattle.epistemic.specs.Lists.{_∈_}
 use Rattle.epistemic.specs.Models.{valid}
 use Rattle.epistemic.specs.Bisimulations.{Bisimilar-over}
 use Rattle.epistemic.specs.Cells.{Proper-cell, model}
-use Rattle.epistemic.specs.Acts.{Event}
 use Rattle.epistemic.specs.Claims.{Outcomes-explained}
 use Rattle.knowledge.specs.Acting.{event-of}
 use Rattle.knowledge.specs.Books.{letters, act-count, events-at, goal-formula, outcomes-at}
@@ -25,6 +25,8 @@ module _ (p : Parts) where
   pub record Outcomes-right (c a : ℕ) : Type 0 where
     -- in a proper cell they are the information cells of the product update
     pub proper : Proper-cell (letters p) c → a < act-count p → Outcomes-explained (letters p) c (events-at p a) (outcomes-at p c a)
+    -- each is a proper cell
+    pub cells : (o : ℕ) → o ∈ outcomes-at p c a → Proper-cell (letters p) o
     -- there are none in the empty mask, in a mask with a bit from 2 ^ n up, and of acts past the last
     pub empty : c ≡ 0 → outcomes-at p c a ≡ []
     pub outside : 2 ^ (2 ^ letters p) ≤ c → outcomes-at p c a ≡ []

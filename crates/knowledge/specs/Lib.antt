@@ -3,3 +3,4 @@ pub mod Judging
 pub mod Acting
 pub mod Books
 pub mod Claims
+pub mod Moves

@@ -1,13 +1,24 @@
 //! A knowledge book: the moves of a sheet from cell to cell.
 
 ghost use denote.Ref.{now};
+ghost use lib.Dec.{T};
+ghost use lib.ListN.{length};
+ghost use mathlib.Core.Bool.{cond};
+ghost use mathlib.Core.List.{[]};
 ghost use mathlib.Core.Path.{_≡_};
-ghost use lib.ListN.{getD};
+ghost use Prim.Native.Nat.{_<_};
+ghost use Rattle.std.specs.declared.option.Option.the-variants.{None, Some};
 ghost use Rattle.std.specs.shelf.Maps.{nth};
-ghost use Rattle.knowledge.specs.Books.{book-meaning, class-masks, content, letters};
+ghost use Rattle.sheets.specs.Reading.{act-bytes};
+ghost use Rattle.epistemic.specs.Bits.{bit};
+ghost use Rattle.knowledge.specs.Books.{askable, book-meaning, bytes-of, class-masks, content, letters, outcomes-at};
 ghost use Rattle.knowledge.specs.Claims.{Goal-right, Outcomes-right, Same-right, Texts-read};
+ghost use Rattle.knowledge.specs.Moves.{Landed, class-outcome, moves-at};
 use crate::cell::fits;
 use crate::formula::evaluate;
+use crate::moves::Move;
+use crate::moves::count_moves;
+use crate::moves::nth_move;
 use crate::update::nth_nonempty;
 use crate::update::updated;
 use planning::Book;
@@ -37,25 +48,59 @@ impl<'a> KnowledgeBook<'a> {
         if n < 6 { n } else { 6 }
     }
 
+    /// The bytes of an act, if there is that act and the mask has only valuations of the book's features.
+    fn asked(&self, cell: u64, act: u8) -> Option<&'a [u8]>
+        ensures { λ r. ⌜ bytes-of r ≡ cond (askable (content (now (self .entry))) cell act) (Some (act-bytes (now (self .entry) .sheet) act)) None ⌝ }
+    {
+        if act < self.acts() && fits(self.letters(), cell) {
+            Some(self.sheet.act(act))
+        } else {
+            None
+        }
+    }
+
     /// The new valuations of each class; all empty where the act has no outcomes.
     fn classes(&self, cell: u64, act: u8) -> [u64; 8]
         ensures { λ r. ⌜ r ≡ class-masks (content (now (self .entry))) cell act ⌝ }
     {
-        let letters = self.letters();
-        if act >= self.acts() || !fits(letters, cell) {
+        let Some(bytes) = self.asked(cell, act) else {
             return [0; 8];
-        }
-        let update = updated(letters, cell, self.sheet.act(act));
-        if update.possible == cell {
+        };
+        let update = updated(self.letters(), cell, bytes);
+        if update.covered == cell {
             update.classes
         } else {
             [0; 8]
         }
     }
 
-    /// The outcome of that class; empty if there is none.
+    /// How many events of an act are possible at a valuation of a cell. None are at a valuation outside the cell, in a mask
+    /// that is no cell, and of acts past the last.
+    pub fn moves(&self, cell: u64, valuation: u8, act: u8) -> usize
+        ensures answer { λ r. ⌜ r ≡ length (moves-at (content (now (self .entry))) cell valuation act) ⌝ }
+        ensures some { λ r. ⌜ ((outcomes-at (content (now (self .entry))) cell act ≡ [] → ⊥) → T (bit cell valuation) → 0 < r) ⌝ }
+    {
+        let Some(bytes) = self.asked(cell, act) else {
+            return 0;
+        };
+        count_moves(self.letters(), cell, valuation, bytes)
+    }
+
+    /// The move of that number, from 0, among those of the events of an act that are possible at a valuation of a cell, in
+    /// the order of the sheet; nothing past the last.
+    pub fn nth_move(&self, cell: u64, valuation: u8, act: u8, number: usize) -> Option<Move>
+        ensures answer { λ r. ⌜ r ≡ nth (moves-at (content (now (self .entry))) cell valuation act) number ⌝ }
+        ensures landed { λ r. ⌜ ((m : Move) → r ≡ Some m → Landed (content (now (self .entry))) cell valuation act m) ⌝ }
+    {
+        let Some(bytes) = self.asked(cell, act) else {
+            return None;
+        };
+        nth_move(self.letters(), cell, valuation, bytes, number)
+    }
+
+    /// The outcome of an act in a cell by its class; empty if the class has none.
     pub fn class_outcome(&self, cell: u64, act: u8, class: u8) -> u64
-        ensures { λ r. ⌜ r ≡ getD (class-masks (content (now (self .entry))) cell act) class 0 ⌝ }
+        ensures { λ r. ⌜ r ≡ class-outcome (content (now (self .entry))) cell act class ⌝ }
     {
         let classes = self.classes(cell, act);
         if class < 8 {
@@ -67,7 +112,7 @@ impl<'a> KnowledgeBook<'a> {
 }
 
 /// What the book answers of cells.
-pub impl Book for KnowledgeBook<'_> as KnowledgeMoves {
+pub impl Book for KnowledgeBook<'_> as CellBook {
     type State = u64;
 
     ghost meaning = { λ b. book-meaning (content b) };

@@ -4,8 +4,10 @@ mod book;
 mod cell;
 mod event;
 mod formula;
+mod moves;
 mod update;
 
+pub use book::CellBook;
 pub use book::KnowledgeBook;
-pub use book::KnowledgeMoves;
 pub use formula::evaluate;
+pub use moves::Move;

@@ -1,4 +1,4 @@
-use mathlib.Core.Path.{sym, ap, ap₂, _∙_}
+use mathlib.Core.Path.{ap₂, _∙_}
 use native.Mathlib.Omega.{arith}
 use Prim.Native.Nat.{_*_, _%_, _^_}
 use lib.Bits.{bitAnd, bitOr}

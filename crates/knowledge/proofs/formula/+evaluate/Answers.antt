@@ -1,6 +1,6 @@
-use mathlib.Core.Path.{_≡_, refl, sym, ap, ap₂, _∙_}
+use mathlib.Core.Path.{refl, sym, ap, ap₂, _∙_}
 use mathlib.Core.Bool.{cond}
-use Prim.Native.Nat.{ℕ, _-_, _≤_}
+use Prim.Native.Nat.{_-_, _≤_}
 use native.Mathlib.Omega.{arith}
 use lib.Bits.{bitAnd, bitOr, bitXor, xor-self}
 use lib.Dec.{eqb}
@@ -56,7 +56,7 @@ returns-in-75 t c =
 pub returns-in-77 : need.returns-in-77
 returns-in-77 t c =
     let e = read-first (c .args .letters) 77 (one M) (c .args .text .now) (omega (arith, ltb-false)) (c .in-77 .is) refl in
-    let mask = c .possible .ensures
+    let mask = c .possibly .ensures
     ∙ ap (λ m. cond (eqb m 0) 0 (c .args .cell)) (c .evaluate-inner-in-77 .ensures .mask)
     ∙ sym (ap (λ r. truth 6 (c .args .cell) (r .formula)) e) in
     let rest = c .evaluate-inner-in-77 .ensures .rest ∙ sym (ap (λ r. r .rest) e) in

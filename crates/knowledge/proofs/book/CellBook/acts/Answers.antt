@@ -1,9 +1,8 @@
-use mathlib.Core.Path.{sym, ap, _∙_}
-use Prim.Native.Nat.{min}
+use mathlib.Core.Path.{sym, _∙_}
 use native.Mathlib.Nat.{min-eq-left, min-eq-right}
 use native.Mathlib.Omega.{arith}
 use Rattle.knowledge.proofs.Contents.{count-is}
-use Rattle.knowledge.proofs.book.KnowledgeMoves.acts.Needs as need
+use Rattle.knowledge.proofs.book.CellBook.acts.Needs as need
 
 pub returns-then-acts-lt16 : need.returns-then-acts-lt16
 returns-then-acts-lt16 c =

@@ -19,27 +19,27 @@ use Rattle.planning.specs.contracts.Book.acts as acts
 use Rattle.planning.specs.contracts.Book.outcome as outcome
 use Rattle.planning.specs.contracts.Book.goal as goal
 use Rattle.planning.specs.contracts.Book.same as same
-use Rattle.knowledge.specs.contracts.book.KnowledgeMoves.start as start·own
-use Rattle.knowledge.proofs.book.KnowledgeMoves.start.Met as start·met
-use Rattle.knowledge.proofs.book.KnowledgeMoves.start.Symbol as start·code
-use Rattle.knowledge.specs.contracts.book.KnowledgeMoves.acts as acts·own
-use Rattle.knowledge.proofs.book.KnowledgeMoves.acts.Met as acts·met
-use Rattle.knowledge.proofs.book.KnowledgeMoves.acts.Symbol as acts·code
-use Rattle.knowledge.specs.contracts.book.KnowledgeMoves.outcome as outcome·own
-use Rattle.knowledge.proofs.book.KnowledgeMoves.outcome.Met as outcome·met
-use Rattle.knowledge.proofs.book.KnowledgeMoves.outcome.Symbol as outcome·code
-use Rattle.knowledge.specs.contracts.book.KnowledgeMoves.goal as goal·own
-use Rattle.knowledge.proofs.book.KnowledgeMoves.goal.Met as goal·met
-use Rattle.knowledge.proofs.book.KnowledgeMoves.goal.Symbol as goal·code
-use Rattle.knowledge.specs.contracts.book.KnowledgeMoves.same as same·own
-use Rattle.knowledge.proofs.book.KnowledgeMoves.same.Met as same·met
-use Rattle.knowledge.proofs.book.KnowledgeMoves.same.Symbol as same·code
+use Rattle.knowledge.specs.contracts.book.CellBook.start as start·own
+use Rattle.knowledge.proofs.book.CellBook.start.Met as start·met
+use Rattle.knowledge.proofs.book.CellBook.start.Symbol as start·code
+use Rattle.knowledge.specs.contracts.book.CellBook.acts as acts·own
+use Rattle.knowledge.proofs.book.CellBook.acts.Met as acts·met
+use Rattle.knowledge.proofs.book.CellBook.acts.Symbol as acts·code
+use Rattle.knowledge.specs.contracts.book.CellBook.outcome as outcome·own
+use Rattle.knowledge.proofs.book.CellBook.outcome.Met as outcome·met
+use Rattle.knowledge.proofs.book.CellBook.outcome.Symbol as outcome·code
+use Rattle.knowledge.specs.contracts.book.CellBook.goal as goal·own
+use Rattle.knowledge.proofs.book.CellBook.goal.Met as goal·met
+use Rattle.knowledge.proofs.book.CellBook.goal.Symbol as goal·code
+use Rattle.knowledge.specs.contracts.book.CellBook.same as same·own
+use Rattle.knowledge.proofs.book.CellBook.same.Met as same·met
+use Rattle.knowledge.proofs.book.CellBook.same.Symbol as same·code
 use denote.Builtin.{u64}
 use Rattle.knowledge.specs.contracts.book.KnowledgeBook as book
-use Rattle.knowledge.specs.contracts.book.KnowledgeMoves.the-impl.{dict, ghosts}
+use Rattle.knowledge.specs.contracts.book.CellBook.the-impl.{dict, ghosts}
 use Rattle.knowledge.specs.Books.{content}
 use Rattle.knowledge.proofs.Meanings.{lawful}
-use Rattle.knowledge.proofs.book.KnowledgeMoves.the-impl.Statement.{statement}
+use Rattle.knowledge.proofs.book.CellBook.the-impl.Statement.{statement}
 
 ruleset ends = (Logic.id⊢, Impl.to-emp, Less.less)
 

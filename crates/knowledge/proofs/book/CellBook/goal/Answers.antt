@@ -1,10 +1,10 @@
-use mathlib.Core.Path.{_≡_, sym, ap, ap₂, subst, _∙_}
+use mathlib.Core.Path.{sym, ap, ap₂, subst, _∙_}
 use Rattle.epistemic.specs.Cells.{fit, truth}
 use Rattle.knowledge.specs.Books.{content}
 use Rattle.knowledge.specs.Claims.{Goal-right}
 use Rattle.knowledge.specs.Texts.{read}
 use Rattle.knowledge.proofs.Meanings.{goal-masked, goal-right}
-use Rattle.knowledge.proofs.book.KnowledgeMoves.goal.Needs as need
+use Rattle.knowledge.proofs.book.CellBook.goal.Needs as need
 
 pub returns : need.returns
 returns c =

@@ -4,7 +4,7 @@ use Rattle.std.specs.shelf.Maps.{nth}
 use Rattle.epistemic.specs.Acts.{nonempty}
 use Rattle.knowledge.specs.Books.{content}
 use Rattle.knowledge.proofs.Meanings.{kept-classes, outcomes-right}
-use Rattle.knowledge.proofs.book.KnowledgeMoves.outcome.Needs as need
+use Rattle.knowledge.proofs.book.CellBook.outcome.Needs as need
 
 pub returns : need.returns
 returns c =
