@@ -123,7 +123,7 @@ mask-below (suc k) f = omega (arith, mask-below k f, pow-suc 2 k, most (f k))
     most true = omega arith
     most false = omega arith
 
-pub mask-or : (k : ℕ) (f : ℕ → Bool) → mask (suc k) f ≡ bitOr (mask k f) (cond (f k) (2 ^ k) 0)
+mask-or : (k : ℕ) (f : ℕ → Bool) → mask (suc k) f ≡ bitOr (mask k f) (cond (f k) (2 ^ k) 0)
 unfolding mask
 mask-or k f = go (f k)
   where

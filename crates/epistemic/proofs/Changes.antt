@@ -1,16 +1,19 @@
 -- An event's new valuations, made feature by feature for a whole mask. Assumes nothing.
 use mathlib.Core.Path.{_≡_, refl, sym, ap, ap₂, _∙_}
-use mathlib.Core.Bool.{true, false, cond}
+use mathlib.Core.Bool.{Bool, true, false, cond, not, _&&_, _||_}
 use mathlib.Core.Logic.{inl, inr}
-use Prim.Native.Nat.{ℕ, zero, suc, _^_, _≤_, _<_}
+use Prim.Native.Nat.{ℕ, zero, suc, _-_, _%_, _^_, _≤_, _<_}
 use native.Mathlib.Omega.{arith}
+use lib.Bits.{bitAnd, bitOr, and-mask}
 use lib.Dec.{eqb, ltb}
+use Rattle.std.proofs.shelf.Bits.{pow-pos, mod-below}
 use Rattle.std.proofs.shelf.Tests.{cases-eq, cases-lt, eq-eqb, ne-eqb, lt-ltb, le-ltb}
 use Rattle.epistemic.specs.Bits.{bit, image, put}
 use Rattle.epistemic.specs.Cells.{Fit}
 use Rattle.epistemic.specs.Acts.{Event, new-bit, with-feature, with-features, moved}
-use Rattle.epistemic.proofs.Bits.{bit-below, bit-past, bit-mask, bit-mask-past, same-bits}
+use Rattle.epistemic.proofs.Bits.{bit-and, bit-or, bit-below, bit-past, bit-mask, bit-mask-past, same-bits}
 use Rattle.epistemic.proofs.Images.{image-same, image-self, image-twice}
+use Rattle.epistemic.proofs.Shifts.{bit-complement, bit-cut}
 use Rattle.epistemic.proofs.Features.{bit-put, put-same, put-below}
 
 module _ (e : Event) where
@@ -98,3 +101,33 @@ module _ (e : Event) where
     leaves-feature i set clear =
         sym (image-self (with-feature e i) m 64
         (λ v t. (bit-below 64 m v fits t, ap₂ (λ b k. put i (cond b true (cond k false (bit v i))) v) set clear ∙ put-same i (bit v i) v refl)))
+
+-- `(v & !clear | set) & (2 ^ n - 1)`, at w bits, for one valuation
+module _ (w n : ℕ) (e : Event) (set clear v : ℕ) (few : n ≤ w) (narrow : clear < 2 ^ w) (sets : (i : ℕ) → i < n → bit (e .set) i ≡ bit set i) (clears : (i : ℕ) → i < n → bit (e .clear) i ≡ bit clear i) where
+  abbrev whole : ℕ
+  whole = bitOr (bitAnd v ((2 ^ w - 1) - clear)) set
+
+  by-value : (s k b : Bool) → ((b && not k) || s) ≡ cond s true (cond k false b)
+  by-value true true true = refl
+  by-value true true false = refl
+  by-value true false true = refl
+  by-value true false false = refl
+  by-value false true true = refl
+  by-value false true false = refl
+  by-value false false true = refl
+  by-value false false false = refl
+
+  listed : (i : ℕ) → i < n → bit whole i ≡ new-bit e v i
+  listed i l =
+      bit-or (bitAnd v ((2 ^ w - 1) - clear)) set i
+      ∙ ap₂ _||_ (bit-and v ((2 ^ w - 1) - clear) i ∙ ap (λ b. bit v i && b) (bit-complement w clear i narrow (omega arith) ∙ ap not (sym (clears i l)))) (sym (sets i l))
+      ∙ by-value (bit (e .set) i) (bit (e .clear) i) (bit v i)
+
+  pub moved-masked : bitAnd whole (2 ^ n - 1) ≡ moved n e v
+  moved-masked =
+      and-mask whole n
+      ∙ same-bits (whole % 2 ^ n) (moved n e v)
+      (λ i. elim (cases-lt i n) [
+        | inl l ↦ bit-cut whole n i l ∙ listed i l ∙ sym (bit-mask n (new-bit e v) i l)
+        | inr l ↦ bit-past n (whole % 2 ^ n) i (mod-below whole (2 ^ n) (pow-pos n)) l ∙ sym (bit-mask-past n (new-bit e v) i l)
+      ])

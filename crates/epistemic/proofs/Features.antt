@@ -42,11 +42,11 @@ module _ (i : ℕ) (b : Bool) (v : ℕ) where
       here : (j : ℕ) → j ≡ i → cond (eqb j i) b (bit v j) ≡ bit v j
       here j is = ap (λ c. cond c b (bit v j)) (eq-eqb j i is) ∙ sym e ∙ ap (bit v) (sym is)
 
-  pub bit-put-here : bit (put i b v) i ≡ b
+  bit-put-here : bit (put i b v) i ≡ b
   bit-put-here = bit-put i b v i ∙ ap (λ c. cond c b (bit v i)) (eq-eqb i i refl)
 
   -- setting it again undoes the first
-  pub put-again : (c : Bool) → put i c (put i b v) ≡ put i c v
+  put-again : (c : Bool) → put i c (put i b v) ≡ put i c v
   put-again c = same-bits (put i c (put i b v)) (put i c v) (λ j. bit-put i c (put i b v) j ∙ ap (cond (eqb j i) c) (bit-put i b v j) ∙ go (eqb j i) (bit v j) ∙ sym (bit-put i c v j))
     where
       go : (x y : Bool) → cond x c (cond x b y) ≡ cond x c y

@@ -9,7 +9,7 @@ use lib.Dec.{T, eqb→eq, eqb-refl}
 use Rattle.std.proofs.shelf.Tests.{cases-lt}
 use Rattle.epistemic.specs.Bits.{bit, image}
 use Rattle.epistemic.proofs.Tests.{iff, clash, or-cases, or-left, or-right}
-use Rattle.epistemic.proofs.Bits.{bit-none, bit-or, bit-power, below-bits, same-bits}
+use Rattle.epistemic.proofs.Bits.{bit-none, bit-or, bit-power, same-bits}
 
 -- a bit of a union, as a test
 pub or-from : (a b i : ℕ) → T (bit (bitOr a b) i) → T (bit a i || bit b i)
@@ -87,8 +87,3 @@ image-twice f g x k h =
     (λ t. let r = image-from (λ v. g (f v)) x k u t in
     let a = h (r .0) (r .1 .0) in
     subst (λ w. T (bit (image g (image f x k) k) w)) (r .1 .1) (image-to g (image f x k) k (f (r .0)) (a .1) (image-to f x k (r .0) (a .0) (r .1 .0)))))
-
--- an image under a function into the numbers below 2 ^ n is a set of such
-pub image-below : (g : ℕ → ℕ) (x k l : ℕ) → ((v : ℕ) → T (bit x v) → g v < l) → image g x k < 2 ^ l
-image-below g x k l h =
-    below-bits l (image g x k) (λ u t. let r = image-from g x k u t in subst (λ w. w < l) (r .1 .1) (h (r .0) (r .1 .0)))

@@ -50,7 +50,7 @@ letter-past n i h =
 
 module _ (n k c : ℕ) (more : n ≤ k) (fits : Fit n c) where
   -- a cell over n features is one over more
-  pub fits-wider : Fit k c
+  fits-wider : Fit k c
   fits-wider = omega (arith, pow-mono (pow-mono more))
 
   letters-wider : (i : ℕ) → bitAnd c (letter-mask k i) ≡ bitAnd c (letter-mask n i)

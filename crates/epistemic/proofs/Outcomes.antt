@@ -27,7 +27,7 @@ use Rattle.epistemic.proofs.Reach.{outcome-fits, may-from, possible-all}
 use Rattle.epistemic.proofs.Updates.{ends, from-update, to-update, from-information, to-information, lands, source, cell-is-outcome}
 
 -- a number with a bit is not 0
-has-bit : (m i : ℕ) → T (bit m i) → 0 < m
+pub has-bit : (m i : ℕ) → T (bit m i) → 0 < m
 has-bit m i t =
     elim (cases-lt 0 m) [
       | inl h ↦ h

@@ -17,7 +17,7 @@ use Rattle.epistemic.proofs.Bits.{bit-none, bit-or, bit-below, below-bits, mas
 use Rattle.epistemic.proofs.Images.{or-from, or-into-left, or-into-right, gated-from, gated-to, image-from, image-to}
 use Rattle.epistemic.proofs.Truths.{truth-bit, truth-from, all-pass}
 
-pub moved-below : (n : ℕ) (e : Event) (v : ℕ) → moved n e v < 2 ^ n
+moved-below : (n : ℕ) (e : Event) (v : ℕ) → moved n e v < 2 ^ n
 moved-below n e v = mask-below n (new-bit e v)
 
 module _ (n c : ℕ) where

@@ -19,7 +19,7 @@ pub record Simulation {V W : Type 0} (m : Model V) (o : Model W) (R : V → W �
 -- a test that related worlds answer alike is known at the one exactly when it is known at the other
 module _ {V W : Type 0} (m : Model V) (o : Model W) (R : V → W → Type 0) (sim : Simulation m o R) where
   module _ (p : V → Bool) (q : W → Bool) (same : (v : V) (w : W) → R v w → p v ≡ q w) (v : V) (w : W) (r : R v w) where
-    pub same-known : every (λ x. implies (m .alike v x) (p x)) (m .worlds) ≡ every (λ y. implies (o .alike w y) (q y)) (o .worlds)
+    same-known : every (λ x. implies (m .alike v x) (p x)) (m .worlds) ≡ every (λ y. implies (o .alike w y) (q y)) (o .worlds)
     same-known = iff (every (λ x. implies (m .alike v x) (p x)) (m .worlds)) (every (λ y. implies (o .alike w y) (q y)) (o .worlds)) there back
       where
         there : T (every (λ x. implies (m .alike v x) (p x)) (m .worlds)) → T (every (λ y. implies (o .alike w y) (q y)) (o .worlds))

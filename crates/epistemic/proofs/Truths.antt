@@ -49,7 +49,7 @@ module _ (n c : ℕ) (fits : Fit n c) (x : ℕ) (p : ℕ → Bool) (passing : (v
           subst (λ y. T (eqb x y)) e (eqb-refl x)
 
   -- it is empty exactly when none pass
-  pub none-pass : eqb x 0 ≡ not (some p (model n c .worlds))
+  none-pass : eqb x 0 ≡ not (some p (model n c .worlds))
   none-pass = go (some p (model n c .worlds)) refl
     where
       go : (b : Bool) → some p (model n c .worlds) ≡ b → eqb x 0 ≡ not b

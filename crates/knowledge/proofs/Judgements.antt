@@ -7,7 +7,7 @@ use Rattle.epistemic.specs.Cells.{Fit, truth}
 use Rattle.epistemic.specs.Claims.{Satisfied-at}
 use Rattle.epistemic.proofs.Letters.{truth-wider}
 use Rattle.epistemic.proofs.Truths.{truth-satisfied}
-use Rattle.knowledge.specs.Reading.{read}
+use Rattle.knowledge.specs.Texts.{read}
 use Rattle.knowledge.specs.Judging.{Judged}
 use Rattle.knowledge.proofs.Readings.{read-spelled}
 

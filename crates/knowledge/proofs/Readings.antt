@@ -1,7 +1,7 @@
 -- How a formula is read sign by sign, and that the text of a formula is read as that formula. Assumes nothing.
 use mathlib.Core.Path.{_≡_, refl, sym, ap, _∙_}
 use mathlib.Core.Bool.{false, cond, _&&_}
-use mathlib.Core.List.{List, [], _∷_, _++_, append-assoc}
+use mathlib.Core.List.{List, [], _∷_, _++_, append-assoc, append-nil}
 use Prim.Native.Nat.{ℕ, zero, suc, _+_, _-_, _≤_, _<_}
 use native.Mathlib.Omega.{arith}
 use lib.Dec.{eqb, leb, ltb}
@@ -9,7 +9,7 @@ use lib.ListN.{length, getD, take, drop}
 use Rattle.std.proofs.shelf.Lists.{take-all}
 use Rattle.std.proofs.shelf.Tests.{ne-eqb, le-leb, lt-ltb, cond-true, cond-false, and-from}
 use Rattle.sheets.specs.Formulas.{Formula, top, letter, neg, and, or, K, M, Spells, spells-top, spells-letter, spells-neg, spells-and, spells-or, spells-K, spells-M}
-use Rattle.knowledge.specs.Reading.{Read, never, atom, Sign, alone, one, two, sign, governed, read-within, read}
+use Rattle.knowledge.specs.Texts.{Read, never, atom, Sign, alone, one, two, sign, governed, read-within, read}
 
 module _ (n : ℕ) where
   -- what is left is no longer than the text
@@ -48,7 +48,7 @@ module _ (n : ℕ) where
       governed-same (read-within n k) (read-within n j) bs (within-shorter k bs) (λ cs s. enough k j cs (omega arith) (omega arith)) (sign n b)
 
   -- a text is read by its first sign
-  pub read-sign : (b : ℕ) (bs : List ℕ) (s : Sign) → sign n b ≡ s → read n (b ∷ bs) ≡ governed (read n) bs s
+  read-sign : (b : ℕ) (bs : List ℕ) (s : Sign) → sign n b ≡ s → read n (b ∷ bs) ≡ governed (read n) bs s
   read-sign b bs s e =
       ap (governed (read-within n (length bs)) bs) e
       ∙ governed-same (read-within n (length bs)) (read n) bs (within-shorter (length bs) bs) (λ cs l. enough (length bs) (length cs) cs l (omega arith)) s
@@ -113,3 +113,7 @@ pub read-first : (n b : ℕ) (s : Sign) (bs : List ℕ) → 1 ≤ length bs → 
 read-first n b s bs h is e =
     let rest = take (length bs - 1) (drop 1 bs) in
     ap (read n) (by-first bs h ∙ ap (λ x. x ∷ rest) is) ∙ read-sign n b rest s e
+
+-- the whole text of a formula is read as that formula, and nothing is left
+pub read-whole : (n : ℕ) → n ≤ 6 → {f : Formula} {bs : List ℕ} → Spells n f bs → read n bs ≡ record { formula = f; rest = [] }
+read-whole n few {f} {bs} s = ap (read n) (sym (append-nil bs)) ∙ read-spelled n few s []

@@ -3,7 +3,7 @@ use mathlib.Core.List.{List, map}
 use Prim.Native.Nat.{ℕ, _%_, _^_}
 use Rattle.sheets.specs.Events.{Entry, events-of}
 use Rattle.epistemic.specs.Acts.{Event}
-use Rattle.knowledge.specs.Reading.{read}
+use Rattle.knowledge.specs.Texts.{read}
 
 -- what an event's bytes mean over n features, whatever they are: there are 8 classes, and only features below n change
 abbrev pub event-of : ℕ → Entry → Event

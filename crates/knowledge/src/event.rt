@@ -4,10 +4,11 @@ ghost use mathlib.Core.Bool.{false, true};
 ghost use mathlib.Core.Path.{_≡_};
 ghost use Prim.Native.Nat.{_<_, _^_, _≤_};
 ghost use Rattle.epistemic.specs.Acts.{moved, with-feature};
-ghost use Rattle.epistemic.specs.Bits.{bit, image, put};
+ghost use Rattle.epistemic.specs.Bits.{image, put};
 ghost use Rattle.epistemic.specs.Cells.{Fit};
 ghost use Rattle.sheets.specs.Events.{entry};
 ghost use Rattle.knowledge.specs.Acting.{event-of};
+use crate::cell::has;
 use crate::formula::letter_mask;
 use sheets::Event;
 
@@ -37,13 +38,6 @@ fn changed(letters: u8, event: Event<'_>, i: u8, mask: u64) -> u64
     } else {
         mask
     }
-}
-
-/// Whether the mask has bit `i`.
-pub(crate) fn has(mask: u64, i: u8) -> bool
-    ensures { λ r. ⌜ r ≡ bit mask i ⌝ }
-{
-    i < 64 && mask >> i & 1 == 1
 }
 
 /// The valuations of the mask with feature `i` set.

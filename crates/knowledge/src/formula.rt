@@ -5,7 +5,7 @@ ghost use mathlib.Core.Bool.{cond};
 ghost use mathlib.Core.Path.{_≡_};
 ghost use Rattle.epistemic.specs.Cells.{letter-mask, truth};
 ghost use Rattle.knowledge.specs.Judging.{Judged};
-ghost use Rattle.knowledge.specs.Reading.{atom, read};
+ghost use Rattle.knowledge.specs.Texts.{atom, read};
 
 /// The valuations of the cell, as a mask, at which the formula holds that the bytes begin with, and the bytes after it.
 ///
@@ -30,7 +30,7 @@ pub fn evaluate<'a>(cell: u64, letters: u8, text: &'a [u8]) -> (u64, &'a [u8])
         }
         b'M' => {
             let (inner, rest) = evaluate(cell, letters, rest);
-            (possible(cell, inner), rest)
+            (possibly(cell, inner), rest)
         }
         b'&' => {
             let (left, rest) = evaluate(cell, letters, rest);
@@ -54,7 +54,7 @@ fn known(cell: u64, inner: u64) -> u64
 }
 
 /// The whole cell if the mask has a valuation, else nothing.
-fn possible(cell: u64, inner: u64) -> u64
+fn possibly(cell: u64, inner: u64) -> u64
     ensures { λ r. ⌜ r ≡ cond (eqb inner 0) 0 cell ⌝ }
 {
     if inner == 0 { 0 } else { cell }

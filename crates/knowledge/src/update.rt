@@ -17,7 +17,7 @@ use sheets::first_event;
 #[derive(Clone, Copy)]
 pub(crate) struct Update {
     /// The valuations at which an event is possible.
-    pub(crate) possible: u64,
+    pub(crate) covered: u64,
     /// The new valuations of each class.
     pub(crate) classes: [u64; 8],
 }
@@ -26,20 +26,20 @@ pub(crate) struct Update {
 pub(crate) fn updated(letters: u8, cell: u64, act: &[u8]) -> Update
     requires few { ⌜ letters ≤ 6 ⌝ }
     requires within { ⌜ Fit letters cell ⌝ }
-    ensures possible { λ r. ⌜ r .possible ≡ possible letters cell (act-of letters (now (act .entry))) ⌝ }
+    ensures covered { λ r. ⌜ r .covered ≡ possible letters cell (act-of letters (now (act .entry))) ⌝ }
     ensures classes { λ r. ⌜ r .classes ≡ map (λ k. outcome letters cell k (act-of letters (now (act .entry)))) (counting 0 8) ⌝ }
 {
-    let mut possible = 0;
+    let mut covered = 0;
     let mut classes = [0; 8];
     let mut rest = act;
     while let Some((event, after)) = first_event(rest) {
         let (here, _) = evaluate(cell, letters, event.condition);
         let class = (event.class % 8) as usize;
-        possible |= here;
+        covered |= here;
         classes[class] |= image(letters, event, here);
         rest = after;
     }
-    Update { possible, classes }
+    Update { covered, classes }
 }
 
 /// The mask of that number, from 0, among those that are not empty; nothing past the last.

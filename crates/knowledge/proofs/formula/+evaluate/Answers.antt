@@ -9,7 +9,7 @@ use Rattle.std.proofs.shelf.Lists.{nil-from-length}
 use Rattle.std.proofs.shelf.Tests.{ltb-true, ltb-false}
 use Rattle.sheets.specs.Formulas.{neg, and, or, K, M}
 use Rattle.epistemic.specs.Cells.{truth}
-use Rattle.knowledge.specs.Reading.{atom, alone, one, two, read}
+use Rattle.knowledge.specs.Texts.{atom, alone, one, two, read}
 use Rattle.knowledge.proofs.Readings.{read-first, rest-shorter, other-sign}
 use Rattle.knowledge.proofs.Judgements.{judged}
 use Rattle.knowledge.proofs.formula.+evaluate.Needs as need
@@ -56,7 +56,7 @@ returns-in-75 t c =
 pub returns-in-77 : need.returns-in-77
 returns-in-77 t c =
     let e = read-first (c .args .letters) 77 (one M) (c .args .text .now) (omega (arith, ltb-false)) (c .in-77 .is) refl in
-    let mask = c .possible .ensures
+    let mask = c .possibly .ensures
     ∙ ap (λ m. cond (eqb m 0) 0 (c .args .cell)) (c .evaluate-inner-in-77 .ensures .mask)
     ∙ sym (ap (λ r. truth 6 (c .args .cell) (r .formula)) e) in
     let rest = c .evaluate-inner-in-77 .ensures .rest ∙ sym (ap (λ r. r .rest) e) in

@@ -24,12 +24,12 @@ loop-event-again c =
     let n = c .args .letters in
     let e = entry (c .in-Some .event) in
     let here = c .evaluate-here .ensures .mask ∙ truth-wider n 6 (c .args .cell) (c .pre .few) (c .pre .within) (event-of n e .pre) in
-    so-far-more n (c .args .cell) (c .args .act .now) (c .loop-event .rest .now) (c .in-Some .after .now) e (sym (c .in-Some .ensures tt)) (c .loop-event .possible) (c .loop-event .classes) (c .loop-event .inv) (c .evaluate-here .result .0) (c .image .result) here (c .image .ensures)
+    so-far-more n (c .args .cell) (c .args .act .now) (c .loop-event .rest .now) (c .in-Some .after .now) e (sym (c .in-Some .ensures tt)) (c .loop-event .covered) (c .loop-event .classes) (c .loop-event .inv) (c .evaluate-here .result .0) (c .image .result) here (c .image .ensures)
 
 pub returns : need.returns
 returns c =
     let none = sym (c .in-rest .ensures tt) in
     record {
-      possible = all-possible (c .args .letters) (c .args .cell) (c .args .act .now) (c .loop-event .rest .now) (c .loop-event .possible) (c .loop-event .classes) (c .loop-event .inv) none;
-      classes = all-classes (c .args .letters) (c .args .cell) (c .args .act .now) (c .loop-event .rest .now) (c .loop-event .possible) (c .loop-event .classes) (c .loop-event .inv) none;
+      covered = all-possible (c .args .letters) (c .args .cell) (c .args .act .now) (c .loop-event .rest .now) (c .loop-event .covered) (c .loop-event .classes) (c .loop-event .inv) none;
+      classes = all-classes (c .args .letters) (c .args .cell) (c .args .act .now) (c .loop-event .rest .now) (c .loop-event .covered) (c .loop-event .classes) (c .loop-event .inv) none;
     }

@@ -5,7 +5,7 @@ use lib.Bits.{and-mask}
 use lib.Dec.{eqb}
 use Rattle.std.proofs.shelf.Tests.{le-ltb}
 use Rattle.epistemic.proofs.Bits.{bit-past}
-use Rattle.knowledge.proofs.event.has.Needs as need
+use Rattle.knowledge.proofs.cell.has.Needs as need
 
 pub returns-then-i-lt64 : need.returns-then-i-lt64
 returns-then-i-lt64 c = ap (λ q. eqb q 1) (and-mask (c .args .mask / 2 ^ c .args .i) 1)
