@@ -76,6 +76,7 @@ module _ {S : Type 0} (m : Meaning S) (law : Lawful m) (i : ℕ) (v : View S) (b
           closed = λ u h. ended-closed m law (places v) u;
           number = ap line-number (due 0);
           kept = λ _ _. refl;
+          bound = λ n q. absurd (let z : _≡_ {A = ℕ} 0 1 = cc in omega arith);
           rest = refl;
           size = refl;
         }
@@ -100,6 +101,7 @@ module _ {S : Type 0} (m : Meaning S) (law : Lawful m) (i : ℕ) (v : View S) (b
           closed = λ u h. ended-closed m law (places v) u;
           number = ap line-number (due 0);
           kept = λ e c. absurd (let z : _≡_ {A = ℕ} 0 1 = cc in omega arith);
+          bound = λ k q. let e : n ≡ k = cc in omega (arith, text-most);
           rest = ap (drop 64) laid ∙ drop-append-drop (length text) before text 64 text-most refl;
           size = ap length laid ∙ simp (length-append, length-drop) (let l = text-most in omega arith);
         }

@@ -41,5 +41,6 @@ pub record Printed {S : Type 0} (m : Meaning S) (i : ℕ) (v : View S) (before :
   -- whatever the book: it is refused by the same numbers, a refusal writes nothing, and no line goes past 64 bytes
   pub number : line-number r ≡ line-number (line-answer (ltb (length before) 64) (v .plain .progress .standing) 0)
   pub kept : (e : LineStop) → r ≡ Err e → after ≡ before
+  pub bound : (n : ℕ) → r ≡ Ok n → n ≤ 64
   pub rest : drop 64 after ≡ drop 64 before
   pub size : length after ≡ length before

@@ -10,3 +10,5 @@ pub mod Steps
 pub mod Moving
 pub mod Working
 pub mod Asking
+pub mod Course
+pub mod Portions

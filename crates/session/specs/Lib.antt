@@ -5,3 +5,4 @@ pub mod Calls
 pub mod Joins
 pub mod Judging
 pub mod Units
+pub mod Course

@@ -1,0 +1,4 @@
+pub mod Readings
+pub mod Judgements
+pub mod Updating
+pub mod Numbered
