@@ -1,6 +1,6 @@
 -- Pairs and sections of a sheet, one after another. Assumes nothing.
-use mathlib.Core.Path.{_≡_, refl, sym, ap, _∙_}
-use mathlib.Core.Bool.{Bool, true, false, cond}
+use mathlib.Core.Path.{_≡_, refl, sym, ap, subst, _∙_}
+use mathlib.Core.Bool.{Bool, true, false, cond, true≢false}
 use mathlib.Core.List.{List, [], _∷_, map}
 use mathlib.Core.Logic.{inl, inr}
 use Prim.Native.Nat.{ℕ, zero, suc, _+_, _-_, _*_, _≤_, _<_}
@@ -8,12 +8,14 @@ use native.Mathlib.Omega.{arith}
 use lib.Dec.{eqb, leb, ltb}
 use lib.ListN.{length, getD}
 use Rattle.std.specs.Iters.{counting}
-use Rattle.std.proofs.shelf.Tests.{cases-lt, and-parts, and-from, ltb-true, lt-ltb, le-leb, eq-eqb, ne-eqb, cond-true}
+use Rattle.std.proofs.shelf.Tests.{cases-lt, cases-bool, and-parts, and-cases, and-from, ltb-true, ltb-false, leb-true, leb-false, lt-ltb, le-leb, eq-eqb, ne-eqb, cond-true}
+use Rattle.std.specs.declared.option.Option.{Option}
 use Rattle.std.specs.declared.option.Option.the-variants.{Some, None}
 use Rattle.std.specs.declared.result.Result.{Result}
 use Rattle.std.specs.declared.result.Result.the-variants.{Ok, Err}
 use Rattle.sheets.specs.declared.fault.SectionFault.{SectionFault}
-use Rattle.sheets.specs.declared.fault.SheetFault.the-variants.{Pair, Section}
+use Rattle.sheets.specs.declared.fault.SheetFault.{SheetFault}
+use Rattle.sheets.specs.declared.fault.SheetFault.the-variants.{Header, Pair, Section}
 use Rattle.sheets.specs.Events.{Entry, events-of}
 use Rattle.sheets.specs.Rules.{section-count, header-end, offset, ending, section-bytes}
 use Rattle.sheets.specs.Sections.{Part, named, has-section, section-of}
