@@ -31,9 +31,9 @@ use Rattle.session.proofs.Ranking.{rank-some}
 use Rattle.lines.specs.Words.{first-words, line-text, number-word, outcome-words, place-words, sentence, spaced}
 
 -- a number below a power of ten, or a dash
-word-most : (k : ℕ) → 0 < k → k < 20 → (o : Option ℕ) → ((n : ℕ) → o ≡ Some n → (n < 10 ^ k) × (n < 2 ^ 64)) → length (number-word o) ≤ k
-word-most k p q None h = omega arith
-word-most k p q (Some n) h = length-decimal-le k n p (h n refl .0) (h n refl .1)
+word-most : (k : ℕ) → 0 < k → (o : Option ℕ) → ((n : ℕ) → o ≡ Some n → (n < 10 ^ k) × (n < 2 ^ 64)) → length (number-word o) ≤ k
+word-most k p None h = omega arith
+word-most k p (Some n) h = length-decimal-le k n p (h n refl .0) (h n refl .1)
 
 spaced-most : {X : Type 0} (f : X → List ℕ) → ((x : X) → length (f x) ≤ 4) → (xs : List X) → length (spaced (map f xs)) ≤ 5 * length xs
 spaced-most f h [] = omega arith
@@ -89,7 +89,7 @@ module _ {S : Type 0} (m : Meaning S) (law : Lawful m) (n u : ℕ) (few : n ≤ 
   act-most s None = omega arith
   act-most s (Some zero) = omega arith
   act-most s (Some (suc j)) =
-      word-most 2 (omega arith) (omega arith) (act-of m s (Some (suc j)))
+      word-most 2 (omega arith) (act-of m s (Some (suc j)))
       (λ a e. let b = first-lowest (brings m (within m j) s) 0 (m .acts) a e .below in let l = law .few-acts in (omega arith, omega arith))
 
   outcomes-most : (s : S) (o : Option ℕ) → length (spaced (outcome-words m (known m n u) s o)) ≤ 40
@@ -97,7 +97,7 @@ module _ {S : Type 0} (m : Meaning S) (law : Lawful m) (n u : ℕ) (few : n ≤ 
   outcomes-most s (Some a) =
       let f : S → List ℕ = λ o. number-word (place-of m (known m n u) o) in
       let h : (o : S) → length (f o) ≤ 4 =
-      λ o. word-most 4 (omega arith) (omega arith) (place-of m (known m n u) o)
+      λ o. word-most 4 (omega arith) (place-of m (known m n u) o)
       (λ p e. let w = placed m o 0 (known m n u) p e in
       let q = w .is in
       let z : 0 + w .place ≡ p = cc in
@@ -115,7 +115,7 @@ module _ {S : Type 0} (m : Meaning S) (law : Lawful m) (n u : ℕ) (few : n ≤ 
 
       ranked : (s : S) → length (number-word (rank-by m j s)) ≤ 8
       ranked s =
-          word-most 8 (omega arith) (omega arith) (rank-by m j s)
+          word-most 8 (omega arith) (rank-by m j s)
           (λ k e. let most = rank-some m j s k e .most in
           let l = div-le-self (progress m n u .units - (0 + i + 1)) (length (known m n u)) in (omega arith, omega arith))
 

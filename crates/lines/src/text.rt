@@ -1,10 +1,11 @@
 //! A text under way, of at most 64 bytes.
 
 ghost use mathlib.Core.Path.{_≡_};
-ghost use mathlib.Core.List.{[], _∷_, _++_};
+ghost use mathlib.Core.List.{[], _∷_};
 ghost use Prim.Native.Nat.{_≤_};
-ghost use lib.ListN.{drop, length};
+ghost use lib.ListN.{length};
 ghost use Rattle.std.specs.Written.{decimal};
+ghost use Rattle.lines.specs.Calls.{over};
 ghost use Rattle.lines.specs.Texts.{Adds, text};
 ghost use Rattle.lines.specs.Words.{number-word, spaced};
 
@@ -80,7 +81,7 @@ impl Text {
     pub(crate) fn put(&self, buffer: &mut [u8]) -> usize
         requires { ⌜ 64 ≤ length (now buffer) ⌝ }
         ensures answer { λ r. ⌜ r ≡ length (text (now (self .entry))) ⌝ }
-        ensures after { λ _. ⌜ now (buffer .exit) ≡ text (now (self .entry)) ++ drop (length (text (now (self .entry)))) (now (buffer .entry)) ⌝ }
+        ensures after { λ _. ⌜ now (buffer .exit) ≡ over (text (now (self .entry))) (now (buffer .entry)) ⌝ }
     {
         let n = self.used.min(ROOM);
         buffer[0..n].copy_from_slice(&self.bytes[0..n]);
