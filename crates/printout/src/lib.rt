@@ -7,14 +7,13 @@ ghost use mathlib.Core.Path.{_≡_};
 ghost use Rattle.std.specs.Of.Vec.{vec-items};
 ghost use Rattle.std.specs.Vec.{made};
 ghost use Rattle.printout.specs.Printouts.{accepts, printed};
+use knowledge::CellBook;
 use knowledge::KnowledgeBook;
-use knowledge::KnowledgeMoves;
+pub use plan::print_plan;
 use sheets::Sheet;
 use std::alloc::AllocError;
 use std::alloc::Global;
 use stop::print_stop;
-
-pub use plan::print_plan;
 
 /// What is printed of a sheet, and whether the sheet was accepted.
 #[derive(Drop)]

@@ -46,7 +46,11 @@ fn places_of<T: Copy>(heap: Global, x: T) -> Result<Vec<T>, AllocError>
 }
 
 // Every line of a session, one after the other.
-fn session_lines<B: Book>(heap: Global, book: &B, session: &Session<'_, B::State>) -> Result<Vec<u8>, AllocError>
+fn session_lines<B: Book>(
+    heap: Global,
+    book: &B,
+    session: &Session<'_, B::State>,
+) -> Result<Vec<u8>, AllocError>
     ensures { λ r. ⌜ made r (λ t. ((u : ℕ) → Stands (meaning (now (book .entry))) u (view (now (session .entry))) → vec-items t ≡ all-lines (meaning (now (book .entry))) (places (view (now (session .entry)))) u)) ⌝ }
 {
     let mut text = Vec::new(heap);

@@ -28,5 +28,5 @@ returns-in-Ok g c =
     let z : n - 0 ≡ n = omega arith in
     on-success (c .extend-from-slice .result) ((u : ℕ) → Stands m u v → vec-items (c .extend-from-slice .last .self) ≡ old ++ line-text m (places v) u (c .args .index))
     (λ ok u h.
-        c .extend-from-slice .ensures .items ∙ ap (λ b. cond b (old ++ take (n - 0) after) old) ok ∙ ap (λ k. old ++ take k after) z
-        ∙ added m (c .args .index) v old _ after refl n (c .in-Ok .ensures tt) u h)
+    c .extend-from-slice .ensures .items ∙ ap (λ b. cond b (old ++ take (n - 0) after) old) ok ∙ ap (λ k. old ++ take k after) z
+    ∙ added m (c .args .index) v old _ after refl n (c .in-Ok .ensures tt) u h)

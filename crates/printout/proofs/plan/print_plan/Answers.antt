@@ -14,5 +14,5 @@ returns g c =
     let w = view (c .work .last .self) in
     made-weaker (c .session-lines .result) (λ t. (u : ℕ) → Stands m u w → vec-items t ≡ all-lines m (places w) u) (λ t. vec-items t ≡ plan-text m)
     (λ t h. planned m (c .as-mut-slice .result .now) (c .as-mut-slice-2 .result .now) (view (c .new-session .result)) w (c .work .result)
-        (c .as-mut-slice .ensures .len ∙ c .in-Continue-states .ensures tt) (c .as-mut-slice-2 .ensures .len ∙ c .in-Continue-rows .ensures tt) (c .new-session .ensures) (c .work .ensures .worked) (vec-items t) h)
+    (c .as-mut-slice .ensures .len ∙ c .in-Continue-states .ensures tt) (c .as-mut-slice-2 .ensures .len ∙ c .in-Continue-rows .ensures tt) (c .new-session .ensures) (c .work .ensures .worked) (vec-items t) h)
     (c .session-lines .ensures)
