@@ -27,10 +27,11 @@ post e i = cond (bit (e .set) i) top (cond (bit (e .clear) i) (neg top) (letter 
 abbrev pub new-bit : Event → ℕ → ℕ → Bool
 new-bit e v i = cond (bit (e .set) i) true (cond (bit (e .clear) i) false (bit v i))
 
--- the valuation with feature i as the event leaves it, and with all features below k so
+-- the valuation with feature i as the event leaves it
 abbrev pub with-feature : Event → ℕ → ℕ → ℕ
 with-feature e i v = put i (new-bit e v i) v
 
+-- the valuation with all features below k as the event leaves them
 abbrev pub with-features : Event → ℕ → ℕ → ℕ
 with-features e zero v = v
 with-features e (suc k) v = with-feature e k (with-features e k v)

@@ -21,6 +21,7 @@ pub record Cell-of {W : Type 0} (m : Model W) (w : W) : Type 0 where
   pub has-world : w ∈ information m w .worlds
   pub connected : (u v : W) → u ∈ information m w .worlds → v ∈ information m w .worlds → T (m .alike u v)
 
+-- each information cell of a lawful model is such
 abbrev pub Cells-connected : Type 0 → Type 0
 Cells-connected W = (m : Model W) → Equivalence (m .worlds) (m .alike) → (w : W) → w ∈ m .worlds → Cell-of m w
 
