@@ -1,0 +1,16 @@
+pub mod Tests
+pub mod Lists
+pub mod Within
+pub mod Runs
+pub mod Soundness
+pub mod Completeness
+pub mod Depths
+pub mod Places
+pub mod Gapless
+pub mod Ranking
+pub mod Deepest
+pub mod Bridges
+pub mod Seeking
+pub mod Seen
+pub mod Growth
+pub mod Settled

@@ -1,0 +1,5 @@
+pub mod Meaning
+pub mod Plans
+pub mod Finding
+pub mod Ranks
+pub mod Theory

@@ -1,0 +1,14 @@
+pub mod Joining
+pub mod Chains
+pub mod Judged
+pub mod Levels
+pub mod Phases
+pub mod Ranking
+pub mod Telling
+pub mod Standings
+pub mod Steps
+pub mod Moving
+pub mod Working
+pub mod Asking
+pub mod Course
+pub mod Portions
