@@ -2,7 +2,6 @@
 use mathlib.Core.Path.{_≡_, refl, sym, ap, subst, _∙_}
 use mathlib.Core.Bool.{Bool, true, false, cond}
 use mathlib.Core.List.{List, [], _∷_, _++_}
-use mathlib.Core.Logic.{inl, inr}
 use Prim.Native.Nat.{ℕ, zero, suc, _+_, _-_, _≤_, _<_}
 use native.Mathlib.Omega.{arith}
 use lib.Dec.{leb, ltb}
@@ -13,7 +12,6 @@ use Rattle.std.specs.declared.option.Option.{Option}
 use Rattle.std.specs.declared.option.Option.the-variants.{Some, None}
 use Rattle.std.specs.declared.result.Result.{Result}
 use Rattle.std.specs.declared.result.Result.the-variants.{Ok, Err}
-use Rattle.sheets.specs.declared.fault.FormulaFault.{FormulaFault}
 use Rattle.sheets.specs.declared.fault.SectionFault.{SectionFault}
 use Rattle.sheets.specs.declared.fault.SectionFault.the-variants.{Event, Formula}
 use Rattle.sheets.specs.Checks.{checked, Is-formula}
@@ -21,7 +19,7 @@ use Rattle.sheets.specs.Events.{Entry, first-event, events-of}
 use Rattle.sheets.specs.Rules.{fields-fit}
 use Rattle.sheets.specs.Reading.{then, ask, formula-check, event-check, events-check, act-check}
 use Rattle.sheets.specs.Layout.{event-bytes, Event-right, Events-spelled, no-event, an-event, Act-right}
-use Rattle.sheets.proofs.Splitting.{none-some, events-more, events-none}
+use Rattle.sheets.proofs.Splitting.{none-some, events-more}
 use Rattle.sheets.proofs.Polish.{check-accepts}
 use Rattle.sheets.proofs.Judging.{refused, then-parts, ask-true, formula-passed, events-step, act-some}
 

@@ -1,9 +1,8 @@
 -- The check of a formula's text, one byte after another. Assumes nothing.
-use mathlib.Core.Path.{_≡_, refl, sym, ap, subst, _∙_}
+use mathlib.Core.Path.{_≡_, sym, ap, _∙_}
 use mathlib.Core.Bool.{Bool, true, false, cond, _&&_, _||_}
-use mathlib.Core.List.{List, [], _∷_}
+use mathlib.Core.List.{List}
 use Prim.Native.Nat.{ℕ, zero, suc, _+_, _-_, _≤_, _<_}
-use native.Mathlib.Numerals.{add-one}
 use native.Mathlib.Omega.{arith}
 use lib.Dec.{ltb, leb, eqb}
 use lib.ListN.{length, getD, drop}
@@ -11,11 +10,9 @@ use Rattle.std.proofs.shelf.Lists.{at-drop-more, at-drop-all}
 use Rattle.std.proofs.shelf.Tests.{cond-true, cond-false, lt-ltb, le-ltb}
 use Rattle.std.specs.declared.option.Option.{Option}
 use Rattle.std.specs.declared.option.Option.the-variants.{Some, None}
-use Rattle.std.specs.declared.result.Result.{Result}
 use Rattle.std.specs.declared.result.Result.the-variants.{Ok, Err}
-use Rattle.sheets.specs.declared.fault.FormulaFault.{FormulaFault}
 use Rattle.sheets.specs.declared.fault.FormulaFault.the-variants.{TooLong, Wrong, Spare, Unfinished}
-use Rattle.sheets.specs.Signs.{arity, arity-over, letter-sign}
+use Rattle.sheets.specs.Signs.{arity-over, letter-sign}
 use Rattle.sheets.specs.Checks.{check-from, checked}
 use Rattle.sheets.proofs.Splitting.{none-some}
 

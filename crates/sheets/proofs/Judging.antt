@@ -1,10 +1,10 @@
 -- Sections judged step by step. Assumes nothing.
-use mathlib.Core.Path.{_≡_, refl, sym, ap, subst, _∙_}
+use mathlib.Core.Path.{_≡_, refl, sym, ap, _∙_}
 use mathlib.Core.Bool.{Bool, true, false, true≢false}
 use mathlib.Core.List.{List, [], _∷_}
 use Prim.Native.Nat.{ℕ, zero, suc, _+_, _-_, _≤_, _<_}
 use native.Mathlib.Omega.{arith}
-use lib.Dec.{eqb, ltb}
+use lib.Dec.{eqb}
 use lib.ListN.{length}
 use Rattle.std.proofs.shelf.Tests.{lt-ltb}
 use Rattle.std.specs.declared.option.Option.{Option}
@@ -67,8 +67,8 @@ module _ (n at left : ℕ) (bs : List ℕ) where
           let f : suc k - 1 ≡ k = omega arith in
           ap (λ o. elim o [ Some p ↦ then (event-check n at (p .0)) (events-check n (at + 4 + length (p .0 .condition)) k (p .1)) | None ↦ Err (Event at) ]) e ∙ ap (λ j. elim o [ Some p ↦ then (event-check n at (p .0)) (events-check n (at + 4 + length (p .0 .condition)) j (p .1)) | None ↦ Err (Event at) ]) (sym f)
 
-  pub events-fault : (e : Entry) (rest : List ℕ) (t : SectionFault) → 0 < length bs → 0 < left → first-event bs ≡ Some (e, rest) → event-check n at e ≡ Err t → events-check n at left bs ≡ Err t
-  events-fault e rest t h l f g = events-step h l (Some (e, rest)) f ∙ ap (λ r. then r (events-check n (at + 4 + length (e .condition)) (left - 1) rest)) g
+  pub events-fault : (e : Entry) (rest : List ℕ) (t : SectionFault) → 0 < length bs → 0 < left → first-event bs ≡ Some (e, rest) → Err t ≡ event-check n at e → events-check n at left bs ≡ Err t
+  events-fault e rest t h l f g = events-step h l (Some (e, rest)) f ∙ ap (λ r. then r (events-check n (at + 4 + length (e .condition)) (left - 1) rest)) (sym g)
 
   pub events-on : (e : Entry) (rest : List ℕ) → 0 < length bs → 0 < left → first-event bs ≡ Some (e, rest) → event-check n at e ≡ Ok tt → events-check n at left bs ≡ events-check n (at + 4 + length (e .condition)) (left - 1) rest
   events-on e rest h l f g = events-step h l (Some (e, rest)) f ∙ ap (λ r. then r (events-check n (at + 4 + length (e .condition)) (left - 1) rest)) g
@@ -76,3 +76,13 @@ module _ (n at left : ℕ) (bs : List ℕ) where
 -- an act that has a byte is judged by its events
 pub act-some : (n : ℕ) (bs : List ℕ) → 0 < length bs → act-check n bs ≡ events-check n 0 16 bs
 act-some n bs h = ap (λ b. then (ask b (Event 0)) (events-check n 0 16 bs)) (lt-ltb 0 (length bs) h)
+
+-- what the events left over say is said of the act
+pub act-told : (n at left : ℕ) (bs rest : List ℕ) (r : Result (Unit {0}) SectionFault) → 0 < length bs → events-check n at left rest ≡ events-check n 0 16 bs → events-check n at left rest ≡ r → r ≡ act-check n bs
+act-told n at left bs rest r h e f = sym f ∙ e ∙ sym (act-some n bs h)
+
+-- the events left over after one more
+pub act-goes : (n at count : ℕ) (bs rest after : List ℕ) (e : Entry) → count < 16 → 0 < length rest → events-check n at (16 - count) rest ≡ events-check n 0 16 bs → first-event rest ≡ Some (e, after) → event-check n at e ≡ Ok tt → events-check n (at + 4 + length (e .condition)) (16 - (count + 1)) after ≡ events-check n 0 16 bs
+act-goes n at count bs rest after e l h i f g =
+    let k : 16 - (count + 1) ≡ 16 - count - 1 = omega arith in
+    ap (λ j. events-check n (at + 4 + length (e .condition)) j after) k ∙ sym (events-on n at (16 - count) rest e after h (omega arith) f g) ∙ i

@@ -1,8 +1,8 @@
 -- A sheet is accepted exactly if it is laid out by the rules. Assumes nothing.
 use mathlib.Core.Path.{_≡_, refl, sym, ap, subst, _∙_}
-use mathlib.Core.Bool.{Bool, true, false, _&&_}
+use mathlib.Core.Bool.{true, _&&_}
 use mathlib.Core.List.{List, [], _∷_, _++_, map}
-use Prim.Native.Nat.{ℕ, zero, suc, _+_, _*_, _≤_, _<_}
+use Prim.Native.Nat.{ℕ, zero, suc, _+_, _*_, _≤_}
 use native.Mathlib.Omega.{arith}
 use lib.Dec.{eqb, leb}
 use lib.ListN.{length, getD, take, drop}
@@ -18,7 +18,7 @@ use Rattle.sheets.specs.declared.fault.SheetFault.{SheetFault}
 use Rattle.sheets.specs.declared.fault.SheetFault.the-variants as sheet-fault
 use Rattle.sheets.specs.Events.{Entry, events-of}
 use Rattle.sheets.specs.Rules.{features-fit, acts-fit, start-fits, low-first, mask-of, section-count, header-end, offset, section-bytes}
-use Rattle.sheets.specs.Sections.{Part, act, named}
+use Rattle.sheets.specs.Sections.{act, named}
 use Rattle.sheets.specs.Reading.{then, ask, start-check, formula-check, act-check, part-check, in-sheet, sections-check, pairs-check, header-check, section-numbers, sheet-check, Parts, parts-at, read-sheet}
 use Rattle.sheets.specs.Layout.{Acts-spelled, no-act, an-act, Spread, Laid-out, Accepts-layout}
 use Rattle.sheets.proofs.Judging.{refused, then-parts, ask-true}

@@ -5,9 +5,9 @@ use mathlib.Core.Logic.{inl, inr}
 use mathlib.Core.List.{List, [], _∷_, _++_}
 use Prim.Native.Nat.{ℕ, zero, suc, _+_, _-_, _≤_, _<_}
 use native.Mathlib.Nat.{zero-add}
-use native.Mathlib.Numerals.{one-add, add-one}
+use native.Mathlib.Numerals.{one-add}
 use native.Mathlib.Omega.{arith}
-use lib.Dec.{ltb, leb, eqb}
+use lib.Dec.{leb, eqb}
 use lib.ListN.{length, take, replicate}
 use Rattle.std.proofs.shelf.Lists.{append-nil, append-assoc, length-append, take-at}
 use Rattle.std.proofs.shelf.Tests.{eqb-true, leb-true, leb-false, le-leb, lt-leb, and-parts, and-from, cases-lt}
@@ -18,7 +18,7 @@ use Rattle.std.specs.declared.result.Result.the-variants.{Ok, Err}
 use Rattle.sheets.specs.declared.fault.FormulaFault.{FormulaFault}
 use Rattle.sheets.specs.declared.fault.FormulaFault.the-variants.{Wrong, Spare, Unfinished}
 use Rattle.sheets.specs.Formulas.{Formula, top, letter, neg, and, or, K, M, Spells, spells-top, spells-letter, spells-neg, spells-and, spells-or, spells-K, spells-M}
-use Rattle.sheets.specs.Signs.{arity, arity-over, letter-sign}
+use Rattle.sheets.specs.Signs.{arity-over, letter-sign}
 use Rattle.sheets.specs.Stops.{formula-place}
 use Rattle.sheets.specs.Checks.{check-from, checked, Is-formula, Begins-formula, Accepts, First-fault, Told-first}
 use Rattle.sheets.proofs.Splitting.{none-some}

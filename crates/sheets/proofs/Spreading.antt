@@ -1,18 +1,17 @@
 -- Pairs of a header and the sections that they point at. Assumes nothing.
 use mathlib.Core.Path.{_≡_, refl, sym, ap, subst, _∙_}
-use mathlib.Core.Bool.{Bool, true, false, not, _&&_, _||_}
+use mathlib.Core.Bool.{Bool, true, false, not, _||_}
 use mathlib.Core.List.{List, [], _∷_, _++_, map}
-use Prim.Native.Nat.{ℕ, zero, suc, _+_, _-_, _*_, _≤_, _<_}
+use Prim.Native.Nat.{ℕ, zero, suc, _+_, _-_, _*_, _≤_}
 use native.Mathlib.Omega.{arith}
 use lib.Dec.{leb}
 use lib.ListN.{length, getD, take, drop, length-drop}
 use Rattle.std.specs.Iters.{counting}
 use Rattle.std.proofs.shelf.Lists.{append-assoc, length-append, drop-more, drop-drop, drop-at, take-at, take-append-drop, length-take-le, getD-append-add}
 use Rattle.std.proofs.shelf.Tests.{and-parts, and-from, le-leb, leb-true, or-right}
-use Rattle.std.specs.declared.result.Result.{Result}
-use Rattle.std.specs.declared.result.Result.the-variants.{Ok, Err}
+use Rattle.std.specs.declared.result.Result.the-variants.{Ok}
 use Rattle.sheets.specs.declared.fault.SheetFault.the-variants.{Pair}
-use Rattle.sheets.specs.Rules.{word, offset, size, ending, section-bytes}
+use Rattle.sheets.specs.Rules.{offset, size, ending, section-bytes}
 use Rattle.sheets.specs.Reading.{then, ask, none-left, pair-fits, pairs-check}
 use Rattle.sheets.specs.Layout.{Pairs-spelled, no-pair, a-pair, Spread, any-rest, a-section}
 use Rattle.sheets.proofs.Judging.{then-parts, ask-true}

@@ -1,6 +1,6 @@
 -- Pairs and sections of a sheet, one after another. Assumes nothing.
-use mathlib.Core.Path.{_≡_, refl, sym, ap, subst, _∙_}
-use mathlib.Core.Bool.{Bool, true, false, cond, true≢false}
+use mathlib.Core.Path.{_≡_, refl, sym, ap, _∙_}
+use mathlib.Core.Bool.{Bool, true, false, cond}
 use mathlib.Core.List.{List, [], _∷_, map}
 use mathlib.Core.Logic.{inl, inr}
 use Prim.Native.Nat.{ℕ, zero, suc, _+_, _-_, _*_, _≤_, _<_}
@@ -8,16 +8,14 @@ use native.Mathlib.Omega.{arith}
 use lib.Dec.{eqb, leb, ltb}
 use lib.ListN.{length, getD}
 use Rattle.std.specs.Iters.{counting}
-use Rattle.std.proofs.shelf.Tests.{cases-lt, cases-bool, and-parts, and-cases, and-from, ltb-true, ltb-false, leb-true, leb-false, lt-ltb, le-leb, eq-eqb, ne-eqb, cond-true}
-use Rattle.std.specs.declared.option.Option.{Option}
+use Rattle.std.proofs.shelf.Tests.{cond-true, cases-lt, and-parts, ltb-true, lt-ltb, eq-eqb, ne-eqb}
 use Rattle.std.specs.declared.option.Option.the-variants.{Some, None}
 use Rattle.std.specs.declared.result.Result.{Result}
 use Rattle.std.specs.declared.result.Result.the-variants.{Ok, Err}
 use Rattle.sheets.specs.declared.fault.SectionFault.{SectionFault}
-use Rattle.sheets.specs.declared.fault.SheetFault.{SheetFault}
-use Rattle.sheets.specs.declared.fault.SheetFault.the-variants.{Header, Pair, Section}
+use Rattle.sheets.specs.declared.fault.SheetFault.the-variants.{Pair, Section}
 use Rattle.sheets.specs.Events.{Entry, events-of}
-use Rattle.sheets.specs.Rules.{section-count, header-end, offset, ending, section-bytes}
+use Rattle.sheets.specs.Rules.{section-count, offset, ending, section-bytes}
 use Rattle.sheets.specs.Sections.{Part, named, has-section, section-of}
 use Rattle.sheets.specs.Reading.{then, ask, none-left, pair-fits, pairs-check, part-check, in-sheet, sections-check, Parts}
 use Rattle.sheets.proofs.Splitting.{none-some}
@@ -57,12 +55,6 @@ module _ (bs : List ℕ) (n k : ℕ) (h : k < n) where
   pub section-good : part-check (getD bs 0 0) (named k (section-bytes bs k)) ≡ Ok tt → sections-check bs (counting k (n - k)) ≡ sections-check bs (counting (k + 1) (n - (k + 1)))
   section-good e = sections-step (Ok tt) e
 
-pub pairs-end : (bs : List ℕ) (end n k : ℕ) → n ≤ k → pairs-check bs end (counting k (n - k)) ≡ Ok tt
-pairs-end bs end n k h = ap (pairs-check bs end) (counting-none k n h)
-
-pub sections-end : (bs : List ℕ) (n k : ℕ) → n ≤ k → sections-check bs (counting k (n - k)) ≡ Ok tt
-sections-end bs n k h = ap (sections-check bs) (counting-none k n h)
-
 module _ (bs rs : List ℕ) (k place : ℕ) (same : rs ≡ bs) (at : place ≡ k) where
   moved : {X : Type 0} (f : List ℕ → ℕ → X) → f rs place ≡ f bs k
   moved f = ap (λ xs. f xs place) same ∙ ap (f bs) at
@@ -75,16 +67,12 @@ module _ (bs rs : List ℕ) (k place : ℕ) (same : rs ≡ bs) (at : place ≡ k
       go true h f = (moved has-section ∙ h, ltb-true k (section-count (getD bs 1 0)) (and-parts (ltb k (section-count (getD bs 1 0))) (leb (2 + 4 * (k + 1)) (length bs)) h .0), cc)
       go false h f = absurd (none-some (sym f))
 
+  -- and the reader's place is then one on
+  pub place-on : (next : ℕ) → has-section rs place ≡ true → next ≡ cond (has-section rs place) (place + 1) place → next ≡ k + 1
+  place-on next h e = e ∙ cond-true (has-section rs place) (place + 1) place h ∙ ap (λ x. x + 1) at
+
   pub judged : (n : ℕ) (p : Part) (r : Result (Unit {0}) SectionFault) → n ≡ getD bs 0 0 → p ≡ named k (section-bytes bs k) → r ≡ part-check n p → part-check (getD bs 0 0) (named k (section-bytes bs k)) ≡ r
   judged n p r e f g = sym (g ∙ ap (part-check n) f ∙ ap (λ m. part-check m (named k (section-bytes bs k))) e)
-
-  -- none is handed out only after the last, where the header is whole
-  pub handed-none : header-end (getD bs 1 0) ≤ length bs → None ≡ section-of rs place → section-count (getD bs 1 0) ≤ k
-  handed-none r e =
-      elim (cases-lt k (section-count (getD bs 1 0))) [
-        | inl l ↦ absurd (none-some (e ∙ moved section-of ∙ cond-true (has-section bs k) (Some (named k (section-bytes bs k))) None (and-from (ltb k (section-count (getD bs 1 0))) (leb (2 + 4 * (k + 1)) (length bs)) (lt-ltb k (section-count (getD bs 1 0)) l) (le-leb (2 + 4 * (k + 1)) (length bs) (omega arith)))))
-        | inr l ↦ l
-      ]
 
 -- acts counted from 0 are the sections counted from 2
 acts-from : (bs : List ℕ) (n a m : ℕ) → a + m ≤ n → map (λ i. events-of (cond (ltb i n) (section-bytes bs (i + 2)) [])) (counting a m) ≡ map (λ k. events-of (section-bytes bs k)) (counting (a + 2) m)

@@ -28,7 +28,9 @@ fn arity_over(letters: u8, sign: char) -> Option<u8>
     }
 }
 
-/// Whether the text is one whole formula over so many letters, of 1 to 200 bytes. Refused with the first fault.
+/// Whether the text is one whole formula over so many letters, of 1 to 200 bytes. Refused with the first fault: what is
+/// before its place begins some formula, and no formula goes on with the byte there. This is of the grammar of up to 26
+/// letters; letters past `z` are no signs.
 pub fn check_formula(text: &[u8], letters: u8) -> Result<(), FormulaFault>
     ensures answer { λ r. ⌜ r ≡ checked letters (now (text .entry)) ⌝ }
     ensures grammar { λ r. ⌜ (letters ≤ 26 → Accepts letters (now (text .entry)) r) ⌝ }

@@ -1,4 +1,3 @@
-use mathlib.Core.Path.{refl}
 use native.Mathlib.Omega.{arith}
 use native.Mathlib.Nat.{sub-zero}
 use lib.ListN.{length, getD, take, drop}
@@ -13,4 +12,4 @@ returns-in-len4-up c =
     let bs = c .args .bytes .now in
     let r = take (length bs - 4) (drop 4 bs) in
     let n = getD bs 3 0 in
-    first-whole bs r (take (n - 0) (drop 0 r)) (take (length r - n) (drop n r)) (omega (arith, ltb-false)) (take-rest bs 4) (c .if-rest-n .taken) (simp sub-zero) (take-rest r n)
+    first-whole bs r (take (n - 0) (drop 0 r)) (take (length r - n) (drop n r)) (omega (arith, ltb-false)) (take-rest bs 4) (omega arith) (simp sub-zero) (take-rest r n)

@@ -1,12 +1,11 @@
 use mathlib.Core.Path.{_≡_, sym, _∙_}
 use mathlib.Core.List.{List}
 use native.Mathlib.Omega.{arith}
-use Prim.Native.Nat.{ℕ, _≤_, _<_}
+use Prim.Native.Nat.{ℕ, _≤_}
 use lib.ListN.{getD}
 use Rattle.std.specs.declared.result.Result.{Result}
-use Rattle.std.specs.declared.result.Result.the-variants.{Ok, Err}
 use Rattle.sheets.specs.declared.fault.FormulaFault.{FormulaFault}
-use Rattle.sheets.specs.Checks.{check-from, checked, Accepts, Told-first}
+use Rattle.sheets.specs.Checks.{checked, Accepts, Told-first}
 use Rattle.sheets.proofs.Checking.{arity-most, check-spare, check-wrong, check-more, check-unfinished, check-done, checked-short, checked-long}
 use Rattle.sheets.proofs.Polish.{check-accepts, check-told}
 use Rattle.sheets.proofs.formula.check_formula.Needs as need

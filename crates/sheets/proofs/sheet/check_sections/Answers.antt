@@ -1,13 +1,12 @@
-use mathlib.Core.Path.{_≡_, sym, ap, _∙_}
+use mathlib.Core.Path.{sym, ap, _∙_}
 use Prim.Native.Nat.{_+_, _≤_}
 use native.Mathlib.Omega.{arith}
 use lib.ListN.{getD}
 use Rattle.std.specs.declared.result.Result.the-variants.{Ok, Err}
-use Rattle.std.proofs.shelf.Tests.{cond-true}
 use Rattle.sheets.specs.declared.fault.SheetFault.the-variants.{Section}
 use Rattle.sheets.specs.Rules.{section-count, offset}
-use Rattle.sheets.specs.Sections.{part, has-section}
-use Rattle.sheets.proofs.Walking.{handed-some, judged, section-bad, section-good}
+use Rattle.sheets.specs.Sections.{part}
+use Rattle.sheets.proofs.Walking.{handed-some, judged, place-on, section-bad, section-good}
 use Rattle.sheets.proofs.sheet.check_sections.Needs as need
 
 pub returns-in-Err : need.returns-in-Err
@@ -37,4 +36,4 @@ loop-section-again c =
     let h = handed-some bs rs k place (c .loop-section .inv .2) (c .loop-section .inv .1) p (c .in-Some .ensures tt .answer) in
     let j = judged bs rs k place (c .loop-section .inv .2) (c .loop-section .inv .1) (c .byte-features .result) p (Ok tt) (c .byte-features .ensures) (h .2) (c .in-rest-check-section .ensures tt) in
     let m : k + 1 ≤ section-count (getD bs 1 0) = omega arith in
-    (sym (section-good bs (section-count (getD bs 1 0)) k (h .1) j) ∙ c .loop-section .inv .0, c .in-Some .ensures tt .place ∙ cond-true (has-section rs place) (place + 1) place (h .0) ∙ ap (λ x. x + 1) (c .loop-section .inv .1), ap (λ r. r .now) (c .in-Some .ensures tt .sheet) ∙ c .loop-section .inv .2, m)
+    (sym (section-good bs (section-count (getD bs 1 0)) k (h .1) j) ∙ c .loop-section .inv .0, place-on bs rs k place (c .loop-section .inv .2) (c .loop-section .inv .1) (c .next .last .self .place) (h .0) (c .in-Some .ensures tt .place), ap (λ r. r .now) (c .in-Some .ensures tt .sheet) ∙ c .loop-section .inv .2, m)
