@@ -12,3 +12,14 @@ pub mod Working
 pub mod Asking
 pub mod Course
 pub mod Portions
+pub mod Settling
+pub mod Rows
+pub mod Onward
+pub mod Stepping
+pub mod Looking
+pub mod Starting
+pub mod Histories
+pub mod Promised
+pub mod Walking
+pub mod Lending
+pub mod Replaying

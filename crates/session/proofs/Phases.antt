@@ -16,7 +16,7 @@ use Rattle.planning.specs.Meaning.{Meaning}
 use Rattle.planning.specs.Finding.{found, Final}
 use Rattle.planning.specs.Ranks.{largest, rank-by}
 use Rattle.planning.proofs.Lists.{none-some}
-use Rattle.planning.proofs.Places.{Kept, kept-found, empty-stays}
+use Rattle.planning.proofs.Places.{Kept, kept-found}
 use Rattle.session.specs.ClosedForm.{standing-of, settle, progress-from, progress}
 
 abbrev pub working : ℕ → Progress
@@ -49,9 +49,6 @@ module _ {S : Type 0} (m : Meaning S) where
 
   pub longer : (j k : ℕ) → j ≤ k → length (found m j) ≤ length (found m k)
   longer j k h = kept-length (m .start) (found m j) (found m k) (kept-found m j k h)
-
-  pub final-stays : (r k : ℕ) → Final m r → r ≤ k → found m k ≡ found m r
-  final-stays r k f h = empty-stays m r k h (nth-past (found m r) r (omega arith))
 
   pub final-some : (r : ℕ) → Final m r → 0 < r
   final-some zero f = omega arith

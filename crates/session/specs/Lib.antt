@@ -2,6 +2,10 @@ pub mod ClosedForm
 pub mod Views
 pub mod Stops
 pub mod Calls
+pub mod Walks
+pub mod Histories
+pub mod Promise
+pub mod Replays
 pub mod Joins
 pub mod Judging
 pub mod Units

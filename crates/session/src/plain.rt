@@ -17,7 +17,7 @@ pub struct Row {
 /// A walk along a plan: the place that it has come to, and the acts done since its start.
 #[derive(Clone, Copy)]
 pub struct Walk {
-    pub(crate) place: u16,
+    pub(crate) place: usize,
     pub(crate) acts: u32,
 }
 

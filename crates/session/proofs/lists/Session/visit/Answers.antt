@@ -8,6 +8,7 @@ use Rattle.session.proofs.lists.Session.visit.Needs as need
 pub returns-in-Some-rank : need.returns-in-Some-rank
 returns-in-Some-rank g c =
     record {
+      lent = record { states = refl; rows = refl };
       states = refl;
       rows = visit-ranked (g .B·Book .meaning (c .args .book .now)) (view (c .args .self .now)) (c .args .i) (c .args .j) (c .in-Some .s) (c .in-Some-row .row) (c .in-Some-rank .field-0) (sym (c .state .ensures) ∙ c .in-Some .is) (sym (c .row .ensures) ∙ c .in-Some-row .is) (c .in-Some-rank .is);
       plain = refl;
@@ -16,6 +17,7 @@ returns-in-Some-rank g c =
 pub returns-in-rest-judge : need.returns-in-rest-judge
 returns-in-rest-judge g c =
     record {
+      lent = record { states = refl; rows = refl };
       states = refl;
       rows = visit-blank (g .B·Book .meaning (c .args .book .now)) (view (c .args .self .now)) (c .args .i) (c .args .j) (c .in-Some .s) (c .in-Some-row .row) (sym (c .state .ensures) ∙ c .in-Some .is) (sym (c .row .ensures) ∙ c .in-Some-row .is) (c .in-rest-rank .is) (sym (c .judge .ensures) ∙ c .in-rest-judge .is);
       plain = refl;
