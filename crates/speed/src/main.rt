@@ -43,7 +43,10 @@ fn time<B: Book>(rt: &LibcRuntime, name: &str, book: &B) -> Result<(), AnyError>
     let units = u128::from(session.work(book, u32::MAX).units);
     let micros = begun.elapsed(rt)?.as_micros().max(1);
     let pace = units.saturating_mul(1_000_000) / micros;
-    println!(rt, "{name}: {units} units in {micros} microseconds, {pace} units per second")?;
+    println!(
+        rt,
+        "{name}: {units} units in {micros} microseconds, {pace} units per second"
+    )?;
     Ok(())
 }
 
@@ -117,7 +120,10 @@ fn main(rt: LibcRuntime) -> Result<(), AnyError> {
     if asked {
         rt.report(run(&rt))
     } else {
-        println!(rt, "speed run: times the sheet on standard input and a table of 4,096 spots")?;
+        println!(
+            rt,
+            "speed run: times the sheet on standard input and a table of 4,096 spots"
+        )?;
         Ok(())
     }
 }
