@@ -25,8 +25,8 @@ pub(crate) fn fresh_row<B: Book>(book: &B, s: B::State) -> Row
 impl<'a, S: Copy> Session<'a, S> {
     // Joins s unless a same state is listed; false if there is no place for it.
     fn join<B: Book<State = S>>(&mut self, book: &B, s: S) -> bool
-        ensures lent { λ _. ⌜ Same-lists (now (self .entry)) (now (self .exit)) ⌝ }
         ensures joins { λ r. ⌜ Joins (meaning (now (book .entry))) (s ∷ []) (view (now (self .entry))) r (view (now (self .exit))) ⌝ }
+        ensures lent { λ _. ⌜ Same-lists (now (self .entry)) (now (self .exit)) ⌝ }
     {
         let listed = self.record.listed as usize;
         if listed > self.places() {
@@ -46,8 +46,8 @@ impl<'a, S: Copy> Session<'a, S> {
 
     // Joins the outcomes of one act.
     fn join_outcomes<B: Book<State = S>>(&mut self, book: &B, s: S, act: u8) -> bool
-        ensures lent { λ _. ⌜ Same-lists (now (self .entry)) (now (self .exit)) ⌝ }
         ensures joins { λ r. ⌜ Joins (meaning (now (book .entry))) (meaning (now (book .entry)) .outcomes s act) (view (now (self .entry))) r (view (now (self .exit))) ⌝ }
+        ensures lent { λ _. ⌜ Same-lists (now (self .entry)) (now (self .exit)) ⌝ }
     {
         for number in 0..8 {
             match book.outcome(s, act, number) {
@@ -64,8 +64,8 @@ impl<'a, S: Copy> Session<'a, S> {
 
     // Joins the outcomes of all acts.
     fn expand<B: Book<State = S>>(&mut self, book: &B, s: S) -> bool
-        ensures lent { λ _. ⌜ Same-lists (now (self .entry)) (now (self .exit)) ⌝ }
         ensures joins { λ r. ⌜ Joins (meaning (now (book .entry))) (outcomes-from (meaning (now (book .entry))) s 0 (meaning (now (book .entry)) .acts)) (view (now (self .entry))) r (view (now (self .exit))) ⌝ }
+        ensures lent { λ _. ⌜ Same-lists (now (self .entry)) (now (self .exit)) ⌝ }
     {
         for act in 0..book.acts() {
             if !self.join_outcomes(book, s, act) {
@@ -77,8 +77,8 @@ impl<'a, S: Copy> Session<'a, S> {
 
     // A unit that expands a place.
     pub(crate) fn expand_place<B: Book<State = S>>(&mut self, book: &B)
-        ensures lent { λ _. ⌜ Same-lists (now (self .entry)) (now (self .exit)) ⌝ }
         ensures moves { λ _. ⌜ Moves (meaning (now (book .entry))) (now (self .entry) .«record» .progress .units < now (self .entry) .«record» .listed) (view (now (self .entry))) (view (now (self .exit))) ⌝ }
+        ensures lent { λ _. ⌜ Same-lists (now (self .entry)) (now (self .exit)) ⌝ }
     {
         let units = self.record.progress.units;
         if units == u32::MAX {

@@ -22,8 +22,8 @@ impl<'a, S: Copy> Session<'a, S> {
         call: Call<S>,
         benches: &mut [K],
     ) -> Answer
-        ensures lent { λ _. ⌜ Same-lists (now (self .entry)) (now (self .exit)) ⌝ }
         ensures made { λ r. ⌜ Call-made (meaning (now (book .entry))) (posts-of stands (fit (now (book .entry))) (now (benches .entry))) (view (now (self .entry))) call r (posts-of stands (fit (now (book .entry))) (now (benches .exit))) (view (now (self .exit))) ⌝ }
+        ensures lent { λ _. ⌜ Same-lists (now (self .entry)) (now (self .exit)) ⌝ }
     {
         match call {
             Call::Work(quota) => Answer::Worked(self.work(book, quota)),

@@ -71,10 +71,10 @@ impl<'a, S: Copy> Session<'a, S> {
 
     // Gives place i the rank j if its row is blank and ranks below j allow it.
     fn visit<B: Book<State = S>>(&mut self, book: &B, i: usize, j: u16)
-        ensures lent { λ _. ⌜ Same-lists (now (self .entry)) (now (self .exit)) ⌝ }
         ensures states { λ _. ⌜ now (now (self .exit) .states) ≡ now (now (self .entry) .states) ⌝ }
         ensures rows { λ _. ⌜ now (now (self .exit) .rows) ≡ visited (meaning (now (book .entry))) (view (now (self .entry))) i j ⌝ }
         ensures plain { λ _. ⌜ now (self .exit) .«record» ≡ now (self .entry) .«record» ⌝ }
+        ensures lent { λ _. ⌜ Same-lists (now (self .entry)) (now (self .exit)) ⌝ }
     {
         let Some(s) = self.state(i) else {
             return;
@@ -116,8 +116,8 @@ impl<'a, S: Copy> Session<'a, S> {
 
     // A unit that visits a place.
     pub(crate) fn visit_place<B: Book<State = S>>(&mut self, book: &B)
-        ensures lent { λ _. ⌜ Same-lists (now (self .entry)) (now (self .exit)) ⌝ }
         ensures moves { λ _. ⌜ Moves (meaning (now (book .entry))) (now (self .entry) .«record» .listed ≤ now (self .entry) .«record» .progress .units) (view (now (self .entry))) (view (now (self .exit))) ⌝ }
+        ensures lent { λ _. ⌜ Same-lists (now (self .entry)) (now (self .exit)) ⌝ }
     {
         let units = self.record.progress.units;
         let r = self.record.listed as u32;

@@ -36,9 +36,9 @@ impl<'a, S: Copy> Session<'a, S> {
         book: &B,
         bench: &K,
     ) -> Result<u16, StartStop>
-        ensures lent { λ _. ⌜ Same-lists (now (self .entry)) (now (self .exit)) ⌝ }
         ensures started { λ r. ⌜ Started (meaning (now (book .entry))) (record { state = stands (now (bench .entry)); ready = fit (now (book .entry)) (now (bench .entry)) }) (view (now (self .entry))) r (view (now (self .exit))) ⌝ }
         ensures refused { λ r. ⌜ ((e : StartStop) → r ≡ Err e → view (now (self .exit)) ≡ view (now (self .entry))) ⌝ }
+        ensures lent { λ _. ⌜ Same-lists (now (self .entry)) (now (self .exit)) ⌝ }
     {
         match self.record.progress.standing {
             Standing::Working => return Err(StartStop::Working),
@@ -67,10 +67,10 @@ impl<'a, S: Copy> Session<'a, S> {
         book: &B,
         bench: &mut K,
     ) -> Result<Step, StepStop>
-        ensures lent { λ _. ⌜ Same-lists (now (self .entry)) (now (self .exit)) ⌝ }
         ensures stepped { λ r. ⌜ Stepped (meaning (now (book .entry))) (record { state = stands (now (bench .entry)); ready = fit (now (book .entry)) (now (bench .entry)) }) (view (now (self .entry))) r (record { state = stands (now (bench .exit)); ready = fit (now (book .entry)) (now (bench .exit)) }) (view (now (self .exit))) ⌝ }
         ensures refused { λ r. ⌜ ((e : StepStop) → r ≡ Err e → (view (now (self .exit)) ≡ view (now (self .entry))) × (now (bench .exit) ≡ now (bench .entry))) ⌝ }
         ensures goal { λ r. ⌜ (r ≡ Ok Goal → (view (now (self .exit)) ≡ view (now (self .entry))) × (now (bench .exit) ≡ now (bench .entry))) ⌝ }
+        ensures lent { λ _. ⌜ Same-lists (now (self .entry)) (now (self .exit)) ⌝ }
     {
         let Some(walk) = self.record.walk else {
             return Err(StepStop::NoWalk);

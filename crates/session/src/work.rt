@@ -55,8 +55,8 @@ impl<'a, S: Copy> Session<'a, S> {
 
     // One unit of work.
     fn unit<B: Book<State = S>>(&mut self, book: &B)
-        ensures lent { λ _. ⌜ Same-lists (now (self .entry)) (now (self .exit)) ⌝ }
         ensures moves { λ _. ⌜ Moves (meaning (now (book .entry))) (Unit {0}) (view (now (self .entry))) (view (now (self .exit))) ⌝ }
+        ensures lent { λ _. ⌜ Same-lists (now (self .entry)) (now (self .exit)) ⌝ }
     {
         if self.record.progress.units < self.record.listed as u32 {
             self.expand_place(book);
@@ -78,10 +78,10 @@ impl<'a, S: Copy> Session<'a, S> {
     /// Works for at most `quota` units, fewer if the search is decided before, and answers where the search then stands
     /// and the units spent in all calls so far. Work in portions is work in one.
     pub fn work<B: Book<State = S>>(&mut self, book: &B, quota: u32) -> Progress
-        ensures lent { λ _. ⌜ Same-lists (now (self .entry)) (now (self .exit)) ⌝ }
         ensures worked { λ r. ⌜ Worked (meaning (now (book .entry))) quota (view (now (self .entry))) r (view (now (self .exit))) ⌝ }
         ensures course { λ _. ⌜ Course (meaning (now (book .entry))) ⌝ }
         ensures portions { λ _. ⌜ Portions (meaning (now (book .entry))) ⌝ }
+        ensures lent { λ _. ⌜ Same-lists (now (self .entry)) (now (self .exit)) ⌝ }
     {
         let mut done = 0;
         while done < quota {
