@@ -23,7 +23,7 @@ use session::CarryStop;
 
 impl WorldBench {
     /// A bench at the book's start, with an actual valuation and the byte that chooses. Refused where the valuation is
-    /// outside the start cell.
+    /// outside the start cell, as those from 64 up are outside every cell.
     pub fn new(book: &KnowledgeBook<'_>, valuation: u8, choice: u8) -> Result<WorldBench, WorldStop>
         ensures answer { λ r. ⌜ made r ≡ world-at (content (now (book .entry)) .start) valuation choice ⌝ }
         ensures stop { λ r. ⌜ world-number r ≡ cond (bit (content (now (book .entry)) .start) valuation) 0 17 ⌝ }
@@ -76,9 +76,11 @@ fn has(mask: u64, i: u8) -> bool
     i < 64 && mask >> i & 1 == 1
 }
 
-/// How an act is carried out: of the events that are possible at the actual valuation in the present cell, in the order of
-/// the sheet from 0, the one happens whose number is the byte modulo their count. The bench is always ready.
-pub impl<'a> Bench<KnowledgeBook<'a>> for WorldBench as WorldCarry {
+/// The bench stands in its cell and is always ready. Of the events that are possible at the actual valuation in the present
+/// cell, in the order of the sheet from 0, the one happens whose number is the byte modulo their count: the bench then holds
+/// the event's new valuation, and the outcome of its class as its cell. Refused where the act is not applicable in the cell;
+/// all that the bench holds is then as it was.
+pub impl<'a> Bench<KnowledgeBook<'a>> for WorldBench as CellBench {
     ghost stands = { λ b. b .cell };
 
     ghost fit = { λ _ _. true };

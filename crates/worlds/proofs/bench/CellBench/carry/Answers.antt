@@ -12,7 +12,7 @@ use Rattle.knowledge.specs.Books.{content, outcomes-at}
 use Rattle.knowledge.specs.Moves.{class-outcome}
 use Rattle.worlds.specs.Worlds.{seen, chosen, led}
 use Rattle.worlds.proofs.Carrying.{happens, stuck, some-of-none, taken}
-use Rattle.worlds.proofs.bench.WorldCarry.carry.Needs as need
+use Rattle.worlds.proofs.bench.CellBench.carry.Needs as need
 
 pub returns-in-rest : need.returns-in-rest
 returns-in-rest c =
