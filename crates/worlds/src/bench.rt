@@ -3,7 +3,6 @@
 ghost use denote.Ref.{now};
 ghost use mathlib.Core.Bool.{cond, true};
 ghost use mathlib.Core.Path.{_≡_};
-ghost use lib.Dec.{T};
 ghost use Rattle.std.specs.declared.result.Result.the-variants.{Err, Ok};
 ghost use Rattle.epistemic.specs.Bits.{bit};
 ghost use Rattle.knowledge.specs.Books.{book-meaning, content};
@@ -40,21 +39,6 @@ impl WorldBench {
         }
     }
 
-    /// The cell that the agent sees.
-    pub fn cell(&self) -> u64
-        ensures { λ r. ⌜ r ≡ now (self .entry) .cell ⌝ }
-    {
-        self.cell
-    }
-
-    /// The actual valuation, which lies in the cell.
-    pub fn valuation(&self) -> u8
-        ensures answer { λ r. ⌜ r ≡ now (self .entry) .valuation ⌝ }
-        ensures inside { λ r. ⌜ T (bit (now (self .entry) .cell) r) ⌝ }
-    {
-        self.valuation
-    }
-
     // The move that an act makes: of those at the actual valuation, the one that the byte chooses. None where the act is not
     // applicable.
     fn chosen(&self, book: &KnowledgeBook<'_>, act: u8) -> Option<Move>
@@ -86,7 +70,7 @@ pub impl<'a> Bench<KnowledgeBook<'a>> for WorldBench as CellBench {
     ghost fit = { λ _ _. true };
 
     fn state(&self, book: &KnowledgeBook<'a>) -> u64 {
-        self.cell
+        self.cell()
     }
 
     fn ready(&self, book: &KnowledgeBook<'a>) -> bool {
