@@ -57,14 +57,14 @@ module _ (p : Parts) (w : World) (a : ℕ) where
     pub lands : T (bit (class-outcome p (w .cell) a (m .class)) (m .valuation)) × (class-outcome p (w .cell) a (m .class) ∈ outcomes-at p (w .cell) a)
 
   -- a move is chosen only where the act is applicable
-  pub taken : (m : Move) → chosen p w a ≡ Some m → Taken m
+  pub taken : (m : Move) → Some m ≡ chosen p w a → Taken m
   taken m e = go (applicable p w a) refl e
     where
-      go : (b : Bool) → applicable p w a ≡ b → cond b (nth moves (w .choice % length moves)) None ≡ Some m → Taken m
+      go : (b : Bool) → applicable p w a ≡ b → Some m ≡ cond b (nth moves (w .choice % length moves)) None → Taken m
       go true t h =
           record {
             applies = t;
-            lands = landed p (w .cell) (w .valuation) a (w .choice % length moves) m h .lands (some-outcomes (holds (applicable p w a) t));
+            lands = landed p (w .cell) (w .valuation) a (w .choice % length moves) m (sym h) .lands (some-outcomes (holds (applicable p w a) t));
           }
       go false t h = absurd (let z : _≡_ {A = ℕ} 0 1 = cc in omega arith)
 
@@ -76,6 +76,6 @@ module _ (p : Parts) (w : World) (a : ℕ) where
       (r .0, (from-outcomes true (so (applicable p w a) t) ∙ r .1, landed p (w .cell) (w .valuation) a (w .choice % length moves) (r .0) (r .1)))
 
   -- and none only where it is not
-  pub stuck : T (bit (w .cell) (w .valuation)) → chosen p w a ≡ None → applicable p w a ≡ false
+  pub stuck : T (bit (w .cell) (w .valuation)) → None ≡ chosen p w a → applicable p w a ≡ false
   stuck inside e =
       fails (applicable p w a) (λ t. let m = happens inside t in let is = m .1 .0 in let z : _≡_ {A = ℕ} 0 1 = cc in omega arith)

@@ -3,7 +3,6 @@
 ghost use denote.Ref.{now};
 ghost use mathlib.Core.Bool.{cond, true};
 ghost use mathlib.Core.Path.{_≡_};
-ghost use lib.Dec.{T};
 ghost use Rattle.std.specs.declared.result.Result.the-variants.{Err, Ok};
 ghost use Rattle.epistemic.specs.Bits.{bit};
 ghost use Rattle.knowledge.specs.Books.{book-meaning, content};
@@ -23,7 +22,7 @@ use session::CarryStop;
 
 impl WorldBench {
     /// A bench at the book's start, with an actual valuation and the byte that chooses. Refused where the valuation is
-    /// outside the start cell.
+    /// outside the start cell, as those from 64 up are outside every cell.
     pub fn new(book: &KnowledgeBook<'_>, valuation: u8, choice: u8) -> Result<WorldBench, WorldStop>
         ensures answer { λ r. ⌜ made r ≡ world-at (content (now (book .entry)) .start) valuation choice ⌝ }
         ensures stop { λ r. ⌜ world-number r ≡ cond (bit (content (now (book .entry)) .start) valuation) 0 17 ⌝ }
@@ -38,21 +37,6 @@ impl WorldBench {
         } else {
             Err(WorldStop::Outside)
         }
-    }
-
-    /// The cell that the agent sees.
-    pub fn cell(&self) -> u64
-        ensures { λ r. ⌜ r ≡ now (self .entry) .cell ⌝ }
-    {
-        self.cell
-    }
-
-    /// The actual valuation, which lies in the cell.
-    pub fn valuation(&self) -> u8
-        ensures answer { λ r. ⌜ r ≡ now (self .entry) .valuation ⌝ }
-        ensures inside { λ r. ⌜ T (bit (now (self .entry) .cell) r) ⌝ }
-    {
-        self.valuation
     }
 
     // The move that an act makes: of those at the actual valuation, the one that the byte chooses. None where the act is not
@@ -76,15 +60,17 @@ fn has(mask: u64, i: u8) -> bool
     i < 64 && mask >> i & 1 == 1
 }
 
-/// How an act is carried out: of the events that are possible at the actual valuation in the present cell, in the order of
-/// the sheet from 0, the one happens whose number is the byte modulo their count. The bench is always ready.
-pub impl<'a> Bench<KnowledgeBook<'a>> for WorldBench as WorldCarry {
+/// The bench stands in its cell and is always ready. Of the events that are possible at the actual valuation in the present
+/// cell, in the order of the sheet from 0, the one happens whose number is the byte modulo their count: the bench then holds
+/// the event's new valuation, and the outcome of its class as its cell. Refused where the act is not applicable in the cell;
+/// all that the bench holds is then as it was.
+pub impl<'a> Bench<KnowledgeBook<'a>> for WorldBench as CellBench {
     ghost stands = { λ b. b .cell };
 
     ghost fit = { λ _ _. true };
 
     fn state(&self, book: &KnowledgeBook<'a>) -> u64 {
-        self.cell
+        self.cell()
     }
 
     fn ready(&self, book: &KnowledgeBook<'a>) -> bool {

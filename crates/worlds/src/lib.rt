@@ -2,8 +2,10 @@
 
 mod bench;
 mod stops;
+#[cfg(test)]
+mod tests;
 mod world;
 
-pub use bench::WorldCarry;
+pub use bench::CellBench;
 pub use stops::WorldStop;
 pub use world::WorldBench;
