@@ -10,7 +10,7 @@ use session::StepStop;
 use std::io;
 
 /// Prints what a call answered.
-pub fn tell(rt: &LibcRuntime, answer: Answer) -> io::Result<()> {
+pub(crate) fn tell(rt: &LibcRuntime, answer: Answer) -> io::Result<()> {
     match answer {
         Answer::Worked(progress) => tell_standing(rt, progress.standing, progress.units),
         Answer::Asked(row) => tell_row(rt, row),
