@@ -12,7 +12,7 @@ use Rattle.std.proofs.shelf.Bits.{shr-shr}
 use Rattle.std.proofs.shelf.Tests.{cases-lt, eq-eqb, ne-eqb}
 use Rattle.std.proofs.shelf.Ways.{tells}
 use Rattle.epistemic.specs.Bits.{bit, mask}
-use Rattle.epistemic.proofs.Tests.{clash, fails, decide}
+use Rattle.planning.proofs.Tests.{clash, fails, decide}
 
 -- the lowest bit, and the bits above it
 pub bit-low : (m : ℕ) → bit m 0 ≡ eqb (m % 2) 1

@@ -9,7 +9,7 @@ use lib.Dec.{T, T-not, eqb, eqb→eq}
 use Rattle.std.proofs.shelf.Tests.{cases-eq, eq-eqb, ne-eqb}
 use Rattle.epistemic.specs.Bits.{bit, image, put}
 use Rattle.epistemic.specs.Cells.{letter-mask}
-use Rattle.epistemic.proofs.Tests.{iff, so, holds, clash, fails, decide, or-cases, and-parts, and-from}
+use Rattle.planning.proofs.Tests.{iff, so, holds, clash, fails, decide, or-cases, and-parts, and-from}
 use Rattle.epistemic.proofs.Bits.{bit-none, bit-and, bit-or, bit-xor, bit-power, bit-below, below-bits, bit-mask, mask-below, same-bits}
 use Rattle.epistemic.proofs.Images.{or-from, or-into-left, or-into-right, image-from, image-to}
 use Rattle.epistemic.proofs.Shifts.{bit-complement, bit-right, left-to, left-from}

@@ -8,7 +8,7 @@ use lib.Bits.{bitOr}
 use lib.Dec.{T, eqb→eq, eqb-refl}
 use Rattle.std.proofs.shelf.Tests.{cases-lt}
 use Rattle.epistemic.specs.Bits.{bit, image}
-use Rattle.epistemic.proofs.Tests.{iff, clash, or-cases, or-left, or-right}
+use Rattle.planning.proofs.Tests.{iff, clash, or-cases, or-left, or-right}
 use Rattle.epistemic.proofs.Bits.{bit-none, bit-or, bit-power, same-bits}
 
 -- a bit of a union, as a test

@@ -19,7 +19,8 @@ use Rattle.epistemic.specs.Bisimulations.{Bisimilar}
 use Rattle.epistemic.specs.Cells.{Fit, fit, Proper-cell, model, truth, goal}
 use Rattle.epistemic.specs.Acts.{Event, events, Proper, nonempty, possible, outcome, outcomes}
 use Rattle.epistemic.specs.Claims.{update, occurs, Cells-of-update, Outcomes-explained}
-use Rattle.epistemic.proofs.Tests.{iff, so, clash, decide, eqb-from}
+use Rattle.planning.proofs.Tests.{iff, so, clash, decide}
+use Rattle.epistemic.proofs.Tests.{eqb-from}
 use Rattle.epistemic.proofs.Lists.{every-at, every-from, some-at, some-from, kept-from, kept-to, kept-map, kept-most, no-members, map-from, map-to, counting-to}
 use Rattle.epistemic.proofs.Bits.{bit-none, some-bit}
 use Rattle.epistemic.proofs.Truths.{from-cell, to-cell, fit-true, goal-valid}

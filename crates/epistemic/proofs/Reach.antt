@@ -11,7 +11,8 @@ use Rattle.sheets.specs.Formulas.{top}
 use Rattle.epistemic.specs.Models.{sat, may-after, applicable}
 use Rattle.epistemic.specs.Cells.{Fit, model, truth}
 use Rattle.epistemic.specs.Acts.{Event, events, new-bit, moved, possible, outcome}
-use Rattle.epistemic.proofs.Tests.{clash, or-cases, and-over-or}
+use Rattle.planning.proofs.Tests.{clash, or-cases}
+use Rattle.epistemic.proofs.Tests.{and-over-or}
 use Rattle.epistemic.proofs.Lists.{some-at}
 use Rattle.epistemic.proofs.Bits.{bit-none, bit-or, bit-below, below-bits, mask-below}
 use Rattle.epistemic.proofs.Images.{or-from, or-into-left, or-into-right, gated-from, gated-to, image-from, image-to}

@@ -11,7 +11,7 @@ use Rattle.std.proofs.shelf.Bits.{pow-pos, shl-shr, shr-shr, mod-below}
 use Rattle.std.proofs.shelf.Tests.{cases-lt}
 use Rattle.std.proofs.shelf.Ways.{tells}
 use Rattle.epistemic.specs.Bits.{bit}
-use Rattle.epistemic.proofs.Tests.{clash}
+use Rattle.planning.proofs.Tests.{clash}
 use Rattle.epistemic.proofs.Bits.{bit-low, bit-up, bit-none, bit-and, bit-past}
 
 -- the bits of `!a`, at w bits

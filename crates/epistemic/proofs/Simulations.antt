@@ -6,7 +6,8 @@ use lib.Dec.{T}
 use Rattle.epistemic.specs.Lists.{_∈_, every, some, implies}
 use Rattle.sheets.specs.Formulas.{Formula, top, letter, neg, and, or, K, M}
 use Rattle.epistemic.specs.Models.{Model, sat}
-use Rattle.epistemic.proofs.Tests.{iff, and-parts, and-from, implies-from, implies-to}
+use Rattle.planning.proofs.Tests.{iff, and-parts, and-from}
+use Rattle.epistemic.proofs.Tests.{implies-from, implies-to}
 use Rattle.epistemic.proofs.Lists.{every-at, every-from, some-at, some-from}
 
 pub record Simulation {V W : Type 0} (m : Model V) (o : Model W) (R : V → W → Type 0) : Type 0 where

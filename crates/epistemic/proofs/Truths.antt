@@ -11,7 +11,8 @@ use Rattle.sheets.specs.Formulas.{Formula, top, letter, neg, and, or, K, M}
 use Rattle.epistemic.specs.Models.{sat, valid}
 use Rattle.epistemic.specs.Cells.{Fit, fit, model, valuations, letter-mask, truth, goal}
 use Rattle.epistemic.specs.Claims.{Satisfied-at}
-use Rattle.epistemic.proofs.Tests.{iff, so, clash, fails, and-parts, and-from, and-over-and, and-over-or}
+use Rattle.planning.proofs.Tests.{iff, so, clash, fails, and-parts, and-from}
+use Rattle.epistemic.proofs.Tests.{and-over-and, and-over-or}
 use Rattle.epistemic.proofs.Lists.{every-at, every-from, some-at, some-from, kept-from, kept-to, counting-from, counting-to}
 use Rattle.epistemic.proofs.Bits.{bit-none, bit-and, bit-or, bit-xor, bit-mask, bit-below, below-bits, same-bits}
 

@@ -20,7 +20,7 @@ use Rattle.epistemic.specs.Models.{sat, may-after}
 use Rattle.epistemic.specs.Cells.{Fit, fit, model}
 use Rattle.epistemic.specs.Acts.{Event, events, nonempty, possible, outcome, moved}
 use Rattle.epistemic.specs.Claims.{update}
-use Rattle.epistemic.proofs.Tests.{and-parts as both-parts, and-from as both-from}
+use Rattle.planning.proofs.Tests.{and-parts as both-parts, and-from as both-from}
 use Rattle.epistemic.proofs.Lists.{every-at, kept-from, kept-to, map-from, map-to}
 use Rattle.epistemic.proofs.Truths.{to-cell}
 use Rattle.epistemic.proofs.Reach.{may-from}

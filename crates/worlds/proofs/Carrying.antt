@@ -15,7 +15,7 @@ use Rattle.planning.specs.Ranks.{some-of}
 use Rattle.sheets.specs.Reading.{Parts}
 use Rattle.epistemic.specs.Bits.{bit}
 use Rattle.epistemic.specs.Lists.{_∈_}
-use Rattle.epistemic.proofs.Tests.{so, holds, fails}
+use Rattle.planning.proofs.Tests.{so, holds, fails}
 use Rattle.knowledge.specs.Books.{outcomes-at}
 use Rattle.knowledge.specs.Moves.{moves-at, class-outcome}
 use Rattle.knowledge.specs.declared.moves.Move.{Move}
