@@ -1,6 +1,6 @@
 -- What a script bench makes of its next byte. Assumes nothing.
 use mathlib.Core.Path.{_≡_, refl, sym, ap, ap₂, subst, _∙_}
-use mathlib.Core.Bool.{Bool}
+use mathlib.Core.Bool.{Bool, false}
 use mathlib.Core.Logic.{inl, inr}
 use mathlib.Core.List.{List, [], _∷_, _++_, List·Memᴰ, List·Memᴰ·head, List·Memᴰ·tail}
 use Prim.Native.Nat.{ℕ, zero, suc, _+_, _-_, _%_, _≤_, _<_, min}
@@ -15,12 +15,13 @@ use Rattle.std.specs.declared.option.Option.the-variants.{Some, None}
 use Rattle.std.specs.declared.result.Result.{Result}
 use Rattle.std.specs.declared.result.Result.the-variants.{Ok, Err}
 use Rattle.planning.specs.Meaning.{Meaning, Lawful}
-use Rattle.std.proofs.shelf.Tests.{cases-lt, lt-ltb}
+use Rattle.std.proofs.shelf.Tests.{cases-lt, lt-ltb, le-ltb}
+use Rattle.planning.specs.Ranks.{some-of}
 use Rattle.planning.proofs.Tests.{holds}
 use Rattle.planning.proofs.Lists.{none-some}
 use Rattle.session.specs.declared.stops.CarryStop.{CarryStop}
 use Rattle.session.specs.Walks.{Carries}
-use Rattle.benches.specs.Scripts.{answer-by, leaves-by}
+use Rattle.benches.specs.Scripts.{post, answer-by, leaves-by}
 
 pub ok-refuses : (e : CarryStop) → _≡_ {A = Result (Unit {0}) CarryStop} (Ok tt) (Err e) → ⊥
 ok-refuses e q = let z : _≡_ {A = ℕ} 0 1 = cc in omega arith
@@ -55,6 +56,9 @@ module _ (cs : List ℕ) (next : ℕ) (long : length cs ≡ 64) where
   ahead : next < 64 → drop next cs ≡ getD cs next 0 ∷ drop (next + 1) cs
   ahead h = drop-more cs next 0 (omega arith)
 
+  pub ready-told : ltb next 64 ≡ some-of (drop next cs)
+  ready-told = elim (cases-lt next 64) [ inl h ↦ lt-ltb next 64 h ∙ sym (ap some-of (ahead h)) | inr h ↦ le-ltb next 64 h ∙ sym (ap some-of (spent h)) ]
+
 module _ {S : Type 0} (m : Meaning S) (law : Lawful m) (s : S) (a : ℕ) (cs : List ℕ) (next : ℕ) (long : length cs ≡ 64) where
   abbrev os : List S
   os = m .outcomes s a
@@ -64,6 +68,9 @@ module _ {S : Type 0} (m : Meaning S) (law : Lawful m) (s : S) (a : ℕ) (cs : L
 
   -- no byte remains
   module _ (h : 64 ≤ next) where
+    pub none-left : some-of left ≡ false
+    none-left = ap some-of (spent cs next long h)
+
     pub spent-answer : Err CarryStop.NotReady ≡ answer-by left os
     spent-answer = ap (λ xs. answer-by xs os) (sym (spent cs next long h))
 
@@ -78,8 +85,8 @@ module _ {S : Type 0} (m : Meaning S) (law : Lawful m) (s : S) (a : ℕ) (cs : L
     abbrev rest : List ℕ
     rest = drop (next + 1) cs
 
-    pub ready : T (ltb next 64)
-    ready = holds (ltb next 64) (lt-ltb next 64 h)
+    pub ready : T (some-of left)
+    ready = holds (some-of left) (ap some-of (ahead cs next long h))
 
     -- there is no outcome
     module _ (e : length os ≡ 0) where
@@ -103,7 +110,7 @@ module _ {S : Type 0} (m : Meaning S) (law : Lawful m) (s : S) (a : ℕ) (cs : L
       pub took-leaves : record { state = o; bytes = rest } ≡ leaves-by s left os
       took-leaves = sym (ap (λ xs. leaves-by s xs os) (ahead cs next long h) ∙ taken-outcome s byte rest os o e)
 
-      pub took-carries : (r : Bool) → Carries m (record { state = s; ready = ltb next 64 }) a (record { state = o; ready = r })
+      pub took-carries : (r : Bool) → Carries m (post (record { state = s; bytes = left })) a (record { state = o; ready = r })
       took-carries r = (ready, (o, (member os (byte % length os) o e, law .reflexive o)))
 
 -- copying bytes to the end of 64

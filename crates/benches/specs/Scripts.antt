@@ -5,16 +5,23 @@ use lib.ListN.{length, drop, getD}
 use Rattle.std.specs.declared.result.Result.{Result}
 use Rattle.std.specs.declared.result.Result.the-variants.{Ok, Err}
 use Rattle.planning.specs.Meaning.{Meaning}
+use Rattle.planning.specs.Ranks.{some-of}
+use Rattle.session.specs.Walks.{Post}
 use Rattle.session.specs.declared.stops.CarryStop.{CarryStop}
 use Rattle.benches.specs.declared.script.ScriptBench.{ScriptBench}
 
--- where the bench stands, and the bytes that remain
+-- where a bench stands, and the bytes of its script that remain
 pub record Script (S : Type 0) : Type 0 where
   pub state : S
   pub bytes : List ℕ
 
+-- a script bench by what it holds
 abbrev pub script : {S : Type 0} → ScriptBench S → Script S
 script k = record { state = k .state; bytes = drop (k .next) (k .choices) }
+
+-- its meaning: it is ready while bytes remain
+abbrev pub post : {S : Type 0} → Script S → Post S
+post k = record { state = k .state; ready = some-of (k .bytes) }
 
 -- what carry answers, by the bytes that remain and the outcomes of the act
 abbrev pub answer-by : {S : Type 0} → List ℕ → List S → Result (Unit {0}) CarryStop
@@ -29,8 +36,10 @@ leaves-by s (x ∷ xs) [] = record { state = s; bytes = x ∷ xs }
 leaves-by s (x ∷ xs) (o ∷ os) = record { state = getD (o ∷ os) (x % length (o ∷ os)) o; bytes = xs }
 
 module _ {S : Type 0} (m : Meaning S) where
+  -- what carrying an act answers
   abbrev pub carry-answer : Script S → ℕ → Result (Unit {0}) CarryStop
   carry-answer k a = answer-by (k .bytes) (m .outcomes (k .state) a)
 
+  -- what carrying an act leaves
   abbrev pub carry-leaves : Script S → ℕ → Script S
   carry-leaves k a = leaves-by (k .state) (k .bytes) (m .outcomes (k .state) a)

@@ -1,7 +1,7 @@
 //! Benches over any book.
 
-mod carry;
+mod bench;
 mod script;
 
-pub use carry::ScriptBenchOfBook;
+pub use bench::ScriptBenchOfBook;
 pub use script::ScriptBench;

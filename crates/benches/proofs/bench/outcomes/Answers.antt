@@ -1,7 +1,7 @@
 use mathlib.Core.Path.{sym, _∙_}
 use native.Mathlib.Omega.{arith}
 use Rattle.planning.proofs.Lists.{place-below, place-past}
-use Rattle.benches.proofs.carry.outcomes.Needs as need
+use Rattle.benches.proofs.bench.outcomes.Needs as need
 
 pub returns-in-None : need.returns-in-None
 returns-in-None g c =
