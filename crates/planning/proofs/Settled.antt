@@ -2,14 +2,14 @@
 use mathlib.Core.Path.{_≡_, refl, ap, _∙_}
 use mathlib.Core.Bool.{false, _||_}
 use mathlib.Core.Logic.{inl, inr}
-use Prim.Native.Nat.{ℕ, zero, suc}
+use Prim.Native.Nat.{ℕ, zero, suc, _≤_}
 use native.Mathlib.Omega.{arith}
 use Rattle.std.specs.shelf.Maps.{nth}
 use Rattle.std.specs.declared.option.Option.{Option}
 use Rattle.std.specs.declared.option.Option.the-variants.{Some, None}
 use Rattle.planning.specs.Meaning.{Meaning, Lawful}
 use Rattle.planning.specs.Finding.{found, Final}
-use Rattle.planning.specs.Ranks.{some-act, first-act, brings, within, Ranked, Act-given, rank-by, act-of}
+use Rattle.planning.specs.Ranks.{Largest, some-act, first-act, brings, within, Ranked, Act-given, rank-by, act-of}
 use Rattle.planning.specs.Theory.{Ranks-settled, Rank-is-depth}
 use Rattle.planning.proofs.Tests.{clash}
 use Rattle.planning.proofs.Within.{one-rank, ranked-alike}
@@ -19,11 +19,18 @@ use Rattle.planning.proofs.Bridges.{ranked-some, ranked-none, largest-is}
 use Rattle.planning.proofs.Depths.{depth-from-rank, rank-from-depth, none-from-blank, blank-from-none}
 
 module _ {S : Type 0} (m : Meaning S) where
-  one-rank-of : (s : S) (o p : Option ℕ) → Ranked m s o → Ranked m s p → o ≡ p
+  pub one-rank-of : (s : S) (o p : Option ℕ) → Ranked m s o → Ranked m s p → o ≡ p
   one-rank-of s (Some j) (Some k) h g = ap Some (one-rank m s j k h g)
   one-rank-of s (Some j) None h g = absurd (clash (within m j s) (g j) (h .0))
   one-rank-of s None (Some k) h g = absurd (clash (within m k s) (h k) (g .0))
   one-rank-of s None None h g = refl
+
+  largest-low : (r a b : ℕ) → Largest m r a → Largest m r b → a ≤ b
+  largest-low r a b x y = elim (x .some) [ inl e ↦ omega arith | inr h ↦ y .most (h .0) a (h .1 .0) (h .1 .1 .0) (h .1 .1 .1) ]
+
+  -- a list has one largest rank
+  pub one-largest : (r a b : ℕ) → Largest m r a → Largest m r b → a ≡ b
+  one-largest r a b x y = omega (arith, largest-low r a b x y, largest-low r b a y x)
 
   -- the act of a rank above 0
   act-above : (s : S) (j : ℕ) → Ranked m s (Some (suc j)) → (o : Option ℕ) → first-act (brings m (within m j) s) 0 (m .acts) ≡ o → Act-given m s (Some (suc j)) o
@@ -39,7 +46,7 @@ module _ {S : Type 0} (m : Meaning S) where
   act-of-rank s (Some zero) h = refl
   act-of-rank s (Some (suc j)) h = act-above s j h (first-act (brings m (within m j) s) 0 (m .acts)) refl
 
-  act-given : (j : ℕ) (s : S) → Act-given m s (rank-by m j s) (act-of m s (rank-by m j s))
+  pub act-given : (j : ℕ) (s : S) → Act-given m s (rank-by m j s) (act-of m s (rank-by m j s))
   act-given j s = go (rank-by m j s) refl
     where
       go : (o : Option ℕ) → rank-by m j s ≡ o → Act-given m s o (act-of m s o)
@@ -47,7 +54,7 @@ module _ {S : Type 0} (m : Meaning S) where
       go (Some k) e = act-of-rank s (Some k) (ranked-some m j s k e)
 
 module _ {S : Type 0} (m : Meaning S) (law : Lawful m) where
-  decided : (r : ℕ) → Final m r → (i : ℕ) (s : S) → nth (found m r) i ≡ Some s → Ranked m s (rank-by m r s)
+  pub decided : (r : ℕ) → Final m r → (i : ℕ) (s : S) → nth (found m r) i ≡ Some s → Ranked m s (rank-by m r s)
   decided r final i s at = go (rank-by m r s) refl
     where
       go : (o : Option ℕ) → rank-by m r s ≡ o → Ranked m s o

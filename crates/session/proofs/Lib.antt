@@ -10,6 +10,8 @@ pub mod Steps
 pub mod Moving
 pub mod Working
 pub mod Asking
+pub mod Course
+pub mod Portions
 pub mod Settling
 pub mod Rows
 pub mod Onward

@@ -65,6 +65,7 @@ module _ {S : Type 0} (m : Meaning S) where
         stands = a .stands;
         walk = a .keeps .walk;
         told = refl;
+        grows = a .keeps .grows;
         rest = a .keeps .rest;
       }
 

@@ -3,7 +3,7 @@
 use mathlib.Core.Path.{_≡_}
 use mathlib.Core.Bool.{Bool, true, false}
 use mathlib.Core.List.{List}
-use Prim.Native.Nat.{ℕ, _+_, _<_}
+use Prim.Native.Nat.{ℕ, _+_, _≤_, _<_}
 use lib.Dec.{T}
 use lib.ListN.{length, take, drop}
 use Rattle.std.specs.shelf.Maps.{nth}
@@ -63,6 +63,7 @@ module _ {S : Type 0} (m : Meaning S) where
     pub stands : (u : ℕ) → Stands m u v → Stands m (u + q) v′
     pub told : r ≡ v′ .plain .progress
     pub walk : v′ .plain .walk ≡ v .plain .walk
+    pub grows : v .plain .listed ≤ v′ .plain .listed
     pub rest : Rest-kept (v′ .plain .listed) v v′
 
   -- the row of the first listed state that is the same as s

@@ -9,3 +9,4 @@ pub mod Replays
 pub mod Joins
 pub mod Judging
 pub mod Units
+pub mod Course

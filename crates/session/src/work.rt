@@ -3,6 +3,7 @@
 ghost use mathlib.Core.Path.{_≡_};
 ghost use Rattle.session.specs.Calls.{Made, Worked};
 ghost use Rattle.std.specs.declared.option.Option.the-variants.{None};
+ghost use Rattle.session.specs.Course.{Course, Portions};
 ghost use Rattle.session.specs.Units.{Moves, works-at};
 ghost use Rattle.session.specs.Views.{Same-lists, view};
 use crate::expand::fresh_row;
@@ -78,6 +79,8 @@ impl<'a, S: Copy> Session<'a, S> {
     /// and the units spent in all calls so far. Work in portions is work in one.
     pub fn work<B: Book<State = S>>(&mut self, book: &B, quota: u32) -> Progress
         ensures worked { λ r. ⌜ Worked (meaning (now (book .entry))) quota (view (now (self .entry))) r (view (now (self .exit))) ⌝ }
+        ensures course { λ _. ⌜ Course (meaning (now (book .entry))) ⌝ }
+        ensures portions { λ _. ⌜ Portions (meaning (now (book .entry))) ⌝ }
         ensures lent { λ _. ⌜ Same-lists (now (self .entry)) (now (self .exit)) ⌝ }
     {
         let mut done = 0;

@@ -1,0 +1,17 @@
+pub mod Tests
+pub mod Lists
+pub mod Bits
+pub mod Images
+pub mod Laws
+pub mod Simulations
+pub mod Invariance
+pub mod Locality
+pub mod Truths
+pub mod Sameness
+pub mod Reach
+pub mod Updates
+pub mod Outcomes
+pub mod Letters
+pub mod Shifts
+pub mod Features
+pub mod Changes

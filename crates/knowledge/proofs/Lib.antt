@@ -1,0 +1,9 @@
+pub mod Readings
+pub mod Judgements
+pub mod Updating
+pub mod Numbered
+pub mod Cells
+pub mod Meanings
+pub mod Contents
+pub mod Moving
+pub mod Landing

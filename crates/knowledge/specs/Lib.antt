@@ -1,0 +1,6 @@
+pub mod Texts
+pub mod Judging
+pub mod Acting
+pub mod Books
+pub mod Claims
+pub mod Moves

@@ -1,0 +1,4 @@
+pub mod Writing
+pub mod Wording
+pub mod Fitting
+pub mod Printing
