@@ -27,10 +27,6 @@ first-some : {X : Type 0} (xs : List X) → isSome (nth xs 0) ≡ some-of xs
 first-some [] = refl
 first-some (x ∷ xs) = refl
 
-pub some-of-none : {X : Type 0} (xs : List X) → some-of xs ≡ false → xs ≡ []
-some-of-none [] e = refl
-some-of-none (x ∷ xs) e = absurd (subst T e tt)
-
 -- each number below the length is that of an element
 numbered : {X : Type 0} (xs : List X) (k : ℕ) → k < length xs → (x : X) × (nth xs k ≡ Some x)
 numbered [] k h = absurd (omega arith)

@@ -82,7 +82,7 @@ pub impl<'a> Bench<KnowledgeBook<'a>> for WorldBench as CellBench {
         ensures stop { λ r. ⌜ carry-number r ≡ cond (applicable (content (now (book .entry))) (seen (now (self .entry))) act) 0 16 ⌝ }
         ensures bench { λ _. ⌜ seen (now (self .exit)) ≡ after (content (now (book .entry))) (seen (now (self .entry))) act ⌝ }
         ensures happens { λ _. ⌜ Happens (content (now (book .entry))) (seen (now (self .entry))) act ⌝ }
-        ensures carried { λ r. ⌜ Carried (book-meaning (content (now (book .entry)))) (record { state = now (self .entry) .cell; ready = true }) act r (record { state = now (self .exit) .cell; ready = true }) ⌝ }
+        ensures carried { λ r. ⌜ Carried (book-meaning (content (now (book .entry)))) (record { state = now (self .entry) .cell; ready = true }) act (carry-number r) (record { state = now (self .exit) .cell; ready = true }) ⌝ }
         ensures refused { λ r. ⌜ ((e : CarryStop) → r ≡ Err e → now (self .exit) ≡ now (self .entry)) ⌝ }
     {
         let Some(taken) = self.chosen(book, act) else {

@@ -11,7 +11,7 @@ use Rattle.epistemic.specs.Bits.{bit}
 use Rattle.knowledge.specs.Books.{content, outcomes-at}
 use Rattle.knowledge.specs.Moves.{class-outcome}
 use Rattle.worlds.specs.Worlds.{seen, chosen, led}
-use Rattle.worlds.proofs.Carrying.{happens, stuck, some-of-none, taken}
+use Rattle.worlds.proofs.Carrying.{happens, stuck, taken}
 use Rattle.worlds.proofs.bench.CellBench.carry.Needs as need
 
 pub returns-in-rest : need.returns-in-rest
@@ -26,7 +26,7 @@ returns-in-rest c =
       stop = sym (ap (λ t. cond t 0 16) no-act);
       bench = ap (led p (seen b) a) is;
       happens = happens p (seen b) a (b .inside);
-      carried = (tt, (some-of-none (outcomes-at p (b .cell) a) no-act, refl));
+      carried = record { number-is = sym (ap (λ t. cond t 0 16) no-act); leaves = refl };
       refused = λ e _. refl;
     }
 
@@ -53,6 +53,10 @@ returns c =
       stop = sym (ap (λ t. cond t 0 16) (t .applies));
       bench = ap (λ o. record { cell = o; valuation = m .valuation; choice = b .choice }) o ∙ ap (led p (seen b) a) is;
       happens = happens p (seen b) a (b .inside);
-      carried = (tt, (c .class-outcome-self .result, (subst (λ o. List·Memᴰ o (outcomes-at p (b .cell) a)) (sym o) (t .lands .1), eqb-refl (c .class-outcome-self .result))));
+      carried =
+          record {
+            number-is = sym (ap (λ t. cond t 0 16) (t .applies));
+            leaves = (tt, (c .class-outcome-self .result, (subst (λ o. List·Memᴰ o (outcomes-at p (b .cell) a)) (sym o) (t .lands .1), eqb-refl (c .class-outcome-self .result))));
+          };
       refused = λ e h. absurd (let z : _≡_ {A = ℕ} 0 1 = cc in omega arith);
     }
