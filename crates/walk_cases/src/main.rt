@@ -18,8 +18,9 @@ use std::alloc::Global;
 use std::error::AnyError;
 use std::io::Read;
 use tell::tell;
+use worlds::CellBench;
 use worlds::WorldBench;
-use worlds::WorldCarry;
+
 use worlds::WorldStop;
 
 // A list of eight places that hold `x`.

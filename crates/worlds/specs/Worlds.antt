@@ -24,6 +24,7 @@ pub record World : Type 0 where
   pub valuation : ℕ
   pub choice : ℕ
 
+-- a bench without its invariant
 abbrev pub seen : WorldBench → World
 seen b = record { cell = b .cell; valuation = b .valuation; choice = b .choice }
 
@@ -36,7 +37,7 @@ made (Err e) = Err e
 abbrev pub world-at : ℕ → ℕ → ℕ → Result World WorldStop
 world-at c v k = cond (bit c v) (Ok (record { cell = c; valuation = v; choice = k })) (Err WorldStop.Outside)
 
--- where a move leads a bench: the agent sees the outcome of the event's class
+-- where a move leads a bench: to the event's new valuation, in the outcome of its class; without a move it stays
 abbrev pub led : Parts → World → ℕ → Option Move → World
 led p w a None = w
 led p w a (Some m) = record { cell = class-outcome p (w .cell) a (m .class); valuation = m .valuation; choice = w .choice }
@@ -46,7 +47,7 @@ module _ (p : Parts) (w : World) (a : ℕ) where
   abbrev pub applicable : Bool
   applicable = some-of (outcomes-at p (w .cell) a)
 
-  -- of the moves at the actual valuation, in the order of the sheet, the one that the byte chooses: by its remainder
+  -- of the moves at the actual valuation, in the order of the sheet from 0, the one whose number is the byte modulo their count
   abbrev pub chosen : Option Move
   chosen =
       cond applicable (nth (moves-at p (w .cell) (w .valuation) a) (w .choice % length (moves-at p (w .cell) (w .valuation) a))) None

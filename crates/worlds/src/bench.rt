@@ -39,7 +39,7 @@ impl WorldBench {
         }
     }
 
-    // The move that an act makes: of those at the actual valuation, the one that the byte chooses. None where the act is not
+    // The move that an act makes: of those at the actual valuation, the one that the byte chooses; none where the act is not
     // applicable.
     fn chosen(&self, book: &KnowledgeBook<'_>, act: u8) -> Option<Move>
         ensures { λ r. ⌜ r ≡ chosen (content (now (book .entry))) (seen (now (self .entry))) act ⌝ }
