@@ -20,7 +20,6 @@ use std::io::Read;
 use tell::tell;
 use worlds::CellBench;
 use worlds::WorldBench;
-
 use worlds::WorldStop;
 
 // A list of eight places that hold `x`.
