@@ -37,6 +37,10 @@ smooth = event 0 2 0 2 (codes "!a")
 abbrev pub example : List ℕ
 example = 2 ∷ 3 ∷ pair 22 8 ++ pair 30 1 ++ pair 31 11 ++ pair 42 5 ++ pair 47 6 ++ cell 3 ++ codes "b" ++ look ++ open-out ++ smooth
 
+-- the same, where to look is only to see that the shirt is folded
+abbrev pub half-look : List ℕ
+half-look = 2 ∷ 3 ∷ pair 22 8 ++ pair 30 1 ++ pair 31 5 ++ pair 36 5 ++ pair 41 6 ++ cell 3 ++ codes "b" ++ look-folded ++ open-out ++ smooth
+
 -- the same, without look
 abbrev pub without-look : List ℕ
 without-look = 2 ∷ 2 ∷ pair 18 8 ++ pair 26 1 ++ pair 27 5 ++ pair 32 6 ++ cell 3 ++ codes "b" ++ open-out ++ smooth
