@@ -1,5 +1,5 @@
 pub mod Figures
 pub mod Knowing
 pub mod Portioning
-pub mod Shirts
+pub mod Printing
 pub mod Cases

@@ -1,16 +1,14 @@
 -- The example worked on in portions, and in few places. Assumes nothing.
-use mathlib.Core.Path.{_≡_, refl, sym, ap, ap₂, subst, _∙_}
-use mathlib.Core.List.{List}
-use Prim.Native.Nat.{ℕ, zero, suc, _+_, _<_, _≤_, min}
+use mathlib.Core.Path.{_≡_, refl, ap₂, _∙_}
+use Prim.Native.Nat.{ℕ, zero, suc, _<_, _≤_, min}
 use native.Mathlib.Omega.{arith}
 use lib.ListN.{length}
 use Rattle.planning.specs.Finding.{found, Final}
-use Rattle.session.specs.declared.plain.Row.{Row}
 use Rattle.session.specs.declared.plain.Progress.{Progress}
 use Rattle.session.specs.declared.plain.Standing.the-variants.{Working, Found, Full}
 use Rattle.session.specs.ClosedForm.{progress, settle}
 use Rattle.session.specs.Views.{View, places}
-use Rattle.session.specs.Calls.{Made, Worked}
+use Rattle.session.specs.Calls.{Worked}
 use Rattle.session.proofs.Phases.{when-final, settle-done}
 use Rattle.session.proofs.Settling.{reach-final}
 use Rattle.session.proofs.Course.{course}
@@ -77,6 +75,7 @@ two-places = refl
 pub in-places : Places
 in-places =
     record {
+      read = refl;
       four-states = four-states;
       fits = fits;
       three-places = three-places;

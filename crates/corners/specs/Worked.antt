@@ -7,7 +7,7 @@ use lib.Chars.{codes}
 use lib.ListN.{replicate}
 use Rattle.std.specs.declared.result.Result.the-variants.{Ok}
 use Rattle.sheets.specs.Formulas.{K, M, letter}
-use Rattle.sheets.specs.Reading.{parts-at}
+use Rattle.sheets.specs.Reading.{parts-at, read-sheet}
 use Rattle.planning.specs.Meaning.{Meaning}
 use Rattle.planning.specs.Finding.{Final}
 use Rattle.session.specs.declared.plain.Row.{Row}
@@ -51,13 +51,15 @@ pub record Looking : Type 0 where
   pub applicable-half : applicable (model 2 3) (events (act-of 2 look-folded)) ≡ false
   pub outcomes-half : outcomes 2 3 (act-of 2 look-folded) ≡ []
 
--- an act in spot (0,0) that leads to (0,0) or to (0,1), where level 1 is wanted in zone 0 and nothing elsewhere
-abbrev pub spot : ℕ → ℕ → Spot
+-- a spot by zone and level
+abbrev spot : ℕ → ℕ → Spot
 spot z l = record { zone = z; level = l }
 
-abbrev pub slip-to : Spot → TableRow
+-- a row of act 0 in spot (0,0)
+abbrev slip-to : Spot → TableRow
 slip-to s = record { from = spot 0 0; act = 0; to = s }
 
+-- a table whose one act leads from (0,0) to (0,0) or to (0,1), where level 1 is wanted in zone 0 and nothing elsewhere
 abbrev pub slip : Table
 slip = table-of 1 (spot 0 0) (1 ∷ replicate 63 64) (slip-to (spot 0 0) ∷ slip-to (spot 0 1) ∷ [])
 
@@ -79,8 +81,9 @@ shirt = book-meaning (parts-at example)
 abbrev pub at-unit : Standing → ℕ → Progress
 at-unit s u = record { standing = s; units = u }
 
--- the example in enough places, and in too few
+-- the example in enough places, in too few, and in none
 pub record Places : Type 0 where
+  pub read : read-sheet example ≡ Ok (parts-at example)
   pub four-states : Final shirt 4
   pub fits : (n u : ℕ) → 4 ≤ n → 16 ≤ u → progress shirt n u ≡ at-unit (Found 2) 16
   pub three-places : progress shirt 3 1 ≡ at-unit Working 1

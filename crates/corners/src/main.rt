@@ -4,6 +4,7 @@ mod asks;
 mod chains;
 mod example;
 mod quotas;
+mod shirts;
 mod spots;
 mod variants;
 mod words;

@@ -1,6 +1,6 @@
 -- From bytes to lines, by computing. Assumes nothing.
 use mathlib.Core.Path.{_≡_, refl, ap, _∙_}
-use mathlib.Core.Bool.{true, false}
+use mathlib.Core.Bool.{true}
 use mathlib.Core.List.{List, [], _∷_, _++_}
 use Prim.Native.Nat.{ℕ}
 use lib.Chars.{codes}
@@ -12,7 +12,7 @@ use Rattle.printout.specs.Plans.{plan-text}
 use Rattle.printout.specs.Printouts.{printed, accepts}
 use Rattle.corners.specs.Shirts.{example, half-look, mended, without-look}
 use Rattle.corners.specs.Worked.{slip}
-use Rattle.corners.proofs.Figures.{figures, decimal-figures}
+use Rattle.corners.proofs.Figures.{decimal-figures}
 
 -- the lines of the example, with numbers as d writes them
 abbrev example-text : (ℕ → List ℕ) → List ℕ
