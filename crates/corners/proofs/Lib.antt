@@ -1,1 +1,5 @@
-mod Shirts
+pub mod Figures
+pub mod Knowing
+pub mod Portioning
+pub mod Printing
+pub mod Cases

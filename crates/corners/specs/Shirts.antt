@@ -19,23 +19,29 @@ cell m = m ∷ 0 ∷ 0 ∷ 0 ∷ 0 ∷ 0 ∷ 0 ∷ 0 ∷ []
 abbrev event : ℕ → ℕ → ℕ → ℕ → List ℕ → List ℕ
 event class set clear size condition = class ∷ set ∷ clear ∷ size ∷ condition
 
--- the shirt may be folded (`a`) and may be mended (`b`). To look tells whether it is folded
+-- a shirt may be folded (`a`) and may be mended (`b`). The event of seeing that it is folded
 abbrev pub look-folded : List ℕ
 look-folded = event 0 0 0 1 (codes "a")
 
+-- to look: to see that the shirt is folded, or to see that it is not
 abbrev pub look : List ℕ
 look = look-folded ++ event 1 0 0 2 (codes "!a")
 
--- a folded shirt is mended by unfolding it, another by smoothing it
+-- to unfold mends a folded shirt, which is then no longer folded
 abbrev pub open-out : List ℕ
 open-out = event 0 2 1 1 (codes "a")
 
+-- to smooth mends a shirt that is not folded
 abbrev pub smooth : List ℕ
 smooth = event 0 2 0 2 (codes "!a")
 
--- nothing but that the shirt is not mended is known; it is to be mended
+-- the example: all that is known is that the shirt is not mended, and it is to be mended
 abbrev pub example : List ℕ
 example = 2 ∷ 3 ∷ pair 22 8 ++ pair 30 1 ++ pair 31 11 ++ pair 42 5 ++ pair 47 6 ++ cell 3 ++ codes "b" ++ look ++ open-out ++ smooth
+
+-- the same, where to look is only to see that the shirt is folded
+abbrev pub half-look : List ℕ
+half-look = 2 ∷ 3 ∷ pair 22 8 ++ pair 30 1 ++ pair 31 5 ++ pair 36 5 ++ pair 41 6 ++ cell 3 ++ codes "b" ++ look-folded ++ open-out ++ smooth
 
 -- the same, without look
 abbrev pub without-look : List ℕ

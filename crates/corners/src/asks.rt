@@ -1,8 +1,8 @@
 //! Asks of states that are not in the list, before and after the end of a search.
 
-use crate::example::EXAMPLE;
 use crate::example::book_of;
-use crate::spots::SLIP;
+use crate::shirts::shirt;
+use crate::spots::slip_rows;
 use crate::spots::slip_wanted;
 use crate::spots::table;
 use crate::words::Asked;
@@ -41,7 +41,7 @@ fn ask_twice<B: Book>(
 
 // Asks of a cell where the example fits, where it does not, and where there is no place.
 fn ask_cell(rt: &LibcRuntime, name: &str, cell: u64) -> Result<(), AnyError> {
-    let book = book_of(EXAMPLE)?;
+    let book = book_of(shirt())?;
     let mut states = [0u64; 4];
     let mut rows = [BLANK; 4];
     ask_twice(rt, name, &book, &mut states, &mut rows, cell)?;
@@ -52,14 +52,15 @@ fn ask_cell(rt: &LibcRuntime, name: &str, cell: u64) -> Result<(), AnyError> {
 // Asks of a spot where the table fits, and where it does not.
 fn ask_spot(rt: &LibcRuntime, name: &str, spot: Spot) -> Result<(), AnyError> {
     let wanted = slip_wanted();
-    let book = table(&wanted, &SLIP)?;
+    let moves = slip_rows();
+    let book = table(&wanted, &moves)?;
     let mut states = [spot; 2];
     let mut rows = [BLANK; 2];
     ask_twice(rt, name, &book, &mut states, &mut rows, spot)?;
     ask_twice(rt, name, &book, &mut states[0..1], &mut rows, spot)
 }
 
-/// Masks and spots that no list holds, and one that is listed.
+/// Masks and spots that no list holds, and one of each that is listed.
 pub(crate) fn report(rt: &LibcRuntime) -> Result<(), AnyError> {
     ask_cell(rt, "Mask 0", 0)?;
     ask_cell(rt, "Mask 16 of two features", 16)?;

@@ -31,7 +31,7 @@ fn chain(heap: Global, moves: usize) -> Result<Vec<TableRow>, AllocError> {
         rows.push(TableRow {
             from: spot(i),
             act: 0,
-            to: spot(i.wrapping_add(1)),
+            to: spot(i + 1),
         })?;
     }
     Ok(rows)

@@ -1,5 +1,6 @@
-//! The example sheet: a shirt, perhaps folded (`a`), is to be mended (`b`). Its acts are look, unfold and smooth.
+//! The plan of the example.
 
+use crate::shirts::shirt;
 use crate::words::Asked;
 use crate::words::AskedWords;
 use crate::words::BLANK;
@@ -14,15 +15,6 @@ use session::Session;
 use sheets::Sheet;
 use std::error::AnyError;
 use std::io::Write;
-
-/// The example sheet: its counts, the pairs of its sections, the start, the goal, and the acts.
-pub(crate) const EXAMPLE: &[u8] = b"\x02\x03\
-    \x16\0\x08\0\x1e\0\x01\0\x1f\0\x0b\0\x2a\0\x05\0\x2f\0\x06\0\
-    \x03\0\0\0\0\0\0\0\
-    b\
-    \0\0\0\x01a\x01\0\0\x02!a\
-    \0\x02\x01\x01a\
-    \0\x02\0\x02!a";
 
 /// The book of a sheet that is right.
 pub(crate) fn book_of<'a>(sheet: &'a [u8]) -> Result<KnowledgeBook<'a>, AnyError> {
@@ -47,7 +39,7 @@ fn name_of(answer: Result<Row, AskStop>) -> &'static str {
 
 // The plan of the example, place by place.
 fn plan(rt: &LibcRuntime) -> Result<(), AnyError> {
-    let book = book_of(EXAMPLE)?;
+    let book = book_of(shirt())?;
     let mut states = [0u64; 8];
     let mut rows = [BLANK; 8];
     let mut session = Session::new(&book, &mut states, &mut rows);
@@ -67,7 +59,7 @@ fn plan(rt: &LibcRuntime) -> Result<(), AnyError> {
 pub(crate) fn report(rt: &LibcRuntime) -> Result<(), AnyError> {
     plan(rt)?;
     println!(rt, "Its lines:")?;
-    let printout = print_sheet(rt.alloc(), EXAMPLE)?;
+    let printout = print_sheet(rt.alloc(), shirt())?;
     rt.stdout().write_all(printout.text.as_slice())?;
     Ok(())
 }

@@ -4,13 +4,17 @@ mod asks;
 mod chains;
 mod example;
 mod quotas;
+mod shirts;
 mod spots;
 mod variants;
 mod words;
+mod worked;
 
 use std::error::AnyError;
+use worked::worked_cases;
 
 fn main(rt: LibcRuntime) -> Result<(), AnyError> {
+    worked_cases();
     example::report(&rt)?;
     variants::report(&rt)?;
     quotas::report(&rt)?;

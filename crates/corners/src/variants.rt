@@ -1,6 +1,10 @@
 //! Sheets that differ from the example in one thing, and formulas at its start.
 
 use crate::example::book_of;
+use crate::shirts::shirt;
+use crate::shirts::shirt_half_seen;
+use crate::shirts::shirt_mended;
+use crate::shirts::shirt_unseen;
 use crate::words::tell_text;
 use knowledge::CellBook;
 use knowledge::evaluate;
@@ -8,44 +12,23 @@ use planning::Book;
 use printout::print_sheet;
 use std::error::AnyError;
 
-/// The example without look.
-const WITHOUT_LOOK: &[u8] = b"\x02\x02\
-    \x12\0\x08\0\x1a\0\x01\0\x1b\0\x05\0\x20\0\x06\0\
-    \x03\0\0\0\0\0\0\0\
-    b\
-    \0\x02\x01\x01a\
-    \0\x02\0\x02!a";
-
-/// The example with only the first event of look.
-const HALF_LOOK: &[u8] = b"\x02\x03\
-    \x16\0\x08\0\x1e\0\x01\0\x1f\0\x05\0\x24\0\x05\0\x29\0\x06\0\
-    \x03\0\0\0\0\0\0\0\
-    b\
-    \0\0\0\x01a\
-    \0\x02\x01\x01a\
-    \0\x02\0\x02!a";
-
-/// A shirt that is mended, and no acts.
-const MENDED: &[u8] = b"\x02\0\
-    \x0a\0\x08\0\x12\0\x01\0\
-    \x0c\0\0\0\0\0\0\0\
-    b";
-
-/// What comes before the goal, where that has two bytes, and what comes after it.
+/// What comes before a goal of two bytes in the example.
 const BEFORE_GOAL: &[u8] = b"\x02\x03\
     \x16\0\x08\0\x1e\0\x02\0\x20\0\x0b\0\x2b\0\x05\0\x30\0\x06\0\
     \x03\0\0\0\0\0\0\0";
 
+/// The acts of the example, which come after its goal.
 const AFTER_GOAL: &[u8] = b"\0\0\0\x01a\x01\0\0\x02!a\
     \0\x02\x01\x01a\
     \0\x02\0\x02!a";
 
+// What is printed of a sheet.
 fn tell_sheet(rt: &LibcRuntime, name: &str, sheet: &[u8]) -> Result<(), AnyError> {
     let printout = print_sheet(rt.alloc(), sheet)?;
     tell_text(rt, name, printout.text.as_slice())
 }
 
-// The example with a goal of two bytes.
+// What is printed of the example with another goal, of two bytes.
 fn tell_goal(rt: &LibcRuntime, name: &str, goal: &[u8]) -> Result<(), AnyError> {
     let mut sheet = Vec::new(rt.alloc());
     sheet.extend_from_slice(BEFORE_GOAL)?;
@@ -82,9 +65,9 @@ pub(crate) fn report(rt: &LibcRuntime) -> Result<(), AnyError> {
     tell_goal(rt, "Goal &a", b"&a")?;
     tell_goal(rt, "Goal ab", b"ab")?;
     tell_goal(rt, "Goal Kb", b"Kb")?;
-    tell_act(rt, "Look", crate::example::EXAMPLE, 0)?;
-    tell_act(rt, "Look with only its event a", HALF_LOOK, 0)?;
-    tell_sheet(rt, "With only that event", HALF_LOOK)?;
-    tell_sheet(rt, "Without look", WITHOUT_LOOK)?;
-    tell_sheet(rt, "A start that is a goal, no acts", MENDED)
+    tell_act(rt, "Look", shirt(), 0)?;
+    tell_act(rt, "Look with only its event a", shirt_half_seen(), 0)?;
+    tell_sheet(rt, "With only that event", shirt_half_seen())?;
+    tell_sheet(rt, "Without look", shirt_unseen())?;
+    tell_sheet(rt, "A start that is a goal, no acts", shirt_mended())
 }
