@@ -15,60 +15,60 @@ use Rattle.session.proofs.Course.{course}
 use Rattle.epistemic.specs.Bits.{mask, image}
 use Rattle.knowledge.proofs.Meanings.{lawful}
 use Rattle.sheets.specs.Reading.{parts-at}
-use Rattle.corners.specs.Shirts.{example}
-use Rattle.corners.specs.Worked.{shirt, at-unit, Places, Portions}
+use Rattle.corners.specs.Patches.{example}
+use Rattle.corners.specs.Worked.{patch, at-unit, Places, Portions}
 
-four-states : Final shirt 4
+four-states : Final patch 4
 unfolding mask image
 four-states = refl
 
-early : settle shirt 15 4 ≡ at-unit Working 15
+early : settle patch 15 4 ≡ at-unit Working 15
 unfolding mask image
 early = refl
 
 -- after any 16 units or more
-late : (u : ℕ) → 16 ≤ u → settle shirt u 4 ≡ at-unit (Found 2) 16
+late : (u : ℕ) → 16 ≤ u → settle patch u 4 ≡ at-unit (Found 2) 16
 unfolding mask image
-late u h = settle-done shirt u 4 h
+late u h = settle-done patch u 4 h
 
-settles : (n u : ℕ) → 4 ≤ n → progress shirt n u ≡ settle shirt u 4
-settles n u h = when-final shirt n u 4 (reach-final shirt n 4 four-states h) four-states
+settles : (n u : ℕ) → 4 ≤ n → progress patch n u ≡ settle patch u 4
+settles n u h = when-final patch n u 4 (reach-final patch n 4 four-states h) four-states
 
-fits : (n u : ℕ) → 4 ≤ n → 16 ≤ u → progress shirt n u ≡ at-unit (Found 2) 16
+fits : (n u : ℕ) → 4 ≤ n → 16 ≤ u → progress patch n u ≡ at-unit (Found 2) 16
 fits n u h l = settles n u h ∙ late u l
 
 -- the list's length once no place, one and two are expanded
-lengths : (length (found shirt 0) ≡ 1) × ((length (found shirt 1) ≡ 3) × (length (found shirt 2) ≡ 4))
+lengths : (length (found patch 0) ≡ 1) × ((length (found patch 1) ≡ 3) × (length (found patch 2) ≡ 4))
 unfolding mask image
 lengths = (refl, (refl, refl))
 
 -- full from the unit on in which there is no place for a state
-full : (n f u : ℕ) → n < length (found shirt f) → ((k : ℕ) → k < f → length (found shirt k) ≤ n) → f ≤ u → progress shirt n u ≡ at-unit (Full f) f
-full n f u more enough h = course shirt (lawful (parts-at example)) .full n f u more enough h .stands
+full : (n f u : ℕ) → n < length (found patch f) → ((k : ℕ) → k < f → length (found patch k) ≤ n) → f ≤ u → progress patch n u ≡ at-unit (Full f) f
+full n f u more enough h = course patch (lawful (parts-at example)) .full n f u more enough h .stands
 
-full-at-three : (u : ℕ) → 2 ≤ u → progress shirt 3 u ≡ at-unit (Full 2) 2
+full-at-three : (u : ℕ) → 2 ≤ u → progress patch 3 u ≡ at-unit (Full 2) 2
 full-at-three u h = full 3 2 u (omega (arith, lengths)) enough h
   where
-    enough : (k : ℕ) → k < 2 → length (found shirt k) ≤ 3
+    enough : (k : ℕ) → k < 2 → length (found patch k) ≤ 3
     enough zero l = omega (arith, lengths)
     enough (suc zero) l = omega (arith, lengths)
     enough (suc (suc k)) l = omega arith
 
-full-at-two : (u : ℕ) → 1 ≤ u → progress shirt 2 u ≡ at-unit (Full 1) 1
+full-at-two : (u : ℕ) → 1 ≤ u → progress patch 2 u ≡ at-unit (Full 1) 1
 full-at-two u h = full 2 1 u (omega (arith, lengths)) enough h
   where
-    enough : (k : ℕ) → k < 1 → length (found shirt k) ≤ 2
+    enough : (k : ℕ) → k < 1 → length (found patch k) ≤ 2
     enough zero l = omega (arith, lengths)
     enough (suc k) l = omega arith
 
-full-at-none : (u : ℕ) → progress shirt 0 u ≡ at-unit (Full 0) 0
+full-at-none : (u : ℕ) → progress patch 0 u ≡ at-unit (Full 0) 0
 full-at-none u = full 0 0 u (omega (arith, lengths)) (λ k l. omega arith) (omega arith)
 
-three-places : progress shirt 3 1 ≡ at-unit Working 1
+three-places : progress patch 3 1 ≡ at-unit Working 1
 unfolding mask image
 three-places = refl
 
-two-places : progress shirt 2 0 ≡ at-unit Working 0
+two-places : progress patch 2 0 ≡ at-unit Working 0
 unfolding mask image
 two-places = refl
 
@@ -86,7 +86,7 @@ in-places =
     }
 
 -- work leaves the number of places
-same-places : {q : ℕ} {v w : View ℕ} {r : Progress} → Worked shirt q v r w → places w ≡ places v
+same-places : {q : ℕ} {v w : View ℕ} {r : Progress} → Worked patch q v r w → places w ≡ places v
 same-places k = ap₂ (λ a b. min (min a b) 4096) (k .rest .states-length) (k .rest .rows-length)
 
 pub in-portions : Portions

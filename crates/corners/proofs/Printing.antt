@@ -10,7 +10,7 @@ use Rattle.lines.specs.Words.{sentence}
 use Rattle.tables.specs.Books.{table-meaning}
 use Rattle.printout.specs.Plans.{plan-text}
 use Rattle.printout.specs.Printouts.{printed, accepts}
-use Rattle.corners.specs.Shirts.{example, half-look, mended, without-look}
+use Rattle.corners.specs.Patches.{example, half-look, mended, without-look}
 use Rattle.corners.specs.Worked.{slip}
 use Rattle.corners.proofs.Figures.{decimal-figures}
 

@@ -30,9 +30,9 @@ use Rattle.tables.specs.Tables.{Table, table-of, table-answer}
 use Rattle.tables.specs.Books.{table-meaning}
 use Rattle.printout.specs.Plans.{plan-text}
 use Rattle.printout.specs.Printouts.{printed, accepts}
-use Rattle.corners.specs.Shirts.{example, half-look, look, look-folded, mended, without-look}
+use Rattle.corners.specs.Patches.{example, half-look, look, look-folded, mended, without-look}
 
--- where the agent deems possible that the shirt is folded and that it is not, cell 3 over two features
+-- where the agent deems possible that the patch is folded and that it is not, cell 3 over two features
 pub record Knowing : Type 0 where
   pub valuations : model 2 3 .worlds ≡ 0 ∷ 1 ∷ []
   -- `Ka` holds nowhere, by satisfaction and by the evaluator's mask
@@ -44,7 +44,7 @@ pub record Knowing : Type 0 where
   pub possible-everywhere : (v : ℕ) → v ∈ model 2 3 .worlds → sat (model 2 3) v (M (letter 0)) ≡ true
   pub possible-mask : truth 6 3 (M (letter 0)) ≡ 3
 
--- to look, there: with both its events, and with only the one that the shirt is folded
+-- to look, there: with both its events, and with only the one that the patch is folded
 pub record Looking : Type 0 where
   pub applicable-whole : applicable (model 2 3) (events (act-of 2 look)) ≡ true
   pub outcomes-whole : outcomes 2 3 (act-of 2 look) ≡ 2 ∷ 1 ∷ []
@@ -74,8 +74,8 @@ pub record Lines : Type 0 where
   pub slip-lines : plan-text (table-meaning slip) ≡ codes "none 2 4\n0 - -\n1 0 -\n"
 
 -- the book of the example
-abbrev pub shirt : Meaning ℕ
-shirt = book-meaning (parts-at example)
+abbrev pub patch : Meaning ℕ
+patch = book-meaning (parts-at example)
 
 -- a search that stands so, after so many units
 abbrev pub at-unit : Standing → ℕ → Progress
@@ -84,20 +84,20 @@ at-unit s u = record { standing = s; units = u }
 -- the example in enough places, in too few, and in none
 pub record Places : Type 0 where
   pub read : read-sheet example ≡ Ok (parts-at example)
-  pub four-states : Final shirt 4
-  pub fits : (n u : ℕ) → 4 ≤ n → 16 ≤ u → progress shirt n u ≡ at-unit (Found 2) 16
-  pub three-places : progress shirt 3 1 ≡ at-unit Working 1
-  pub full-at-three : (u : ℕ) → 2 ≤ u → progress shirt 3 u ≡ at-unit (Full 2) 2
-  pub two-places : progress shirt 2 0 ≡ at-unit Working 0
-  pub full-at-two : (u : ℕ) → 1 ≤ u → progress shirt 2 u ≡ at-unit (Full 1) 1
-  pub full-at-none : (u : ℕ) → progress shirt 0 u ≡ at-unit (Full 0) 0
+  pub four-states : Final patch 4
+  pub fits : (n u : ℕ) → 4 ≤ n → 16 ≤ u → progress patch n u ≡ at-unit (Found 2) 16
+  pub three-places : progress patch 3 1 ≡ at-unit Working 1
+  pub full-at-three : (u : ℕ) → 2 ≤ u → progress patch 3 u ≡ at-unit (Full 2) 2
+  pub two-places : progress patch 2 0 ≡ at-unit Working 0
+  pub full-at-two : (u : ℕ) → 1 ≤ u → progress patch 2 u ≡ at-unit (Full 1) 1
+  pub full-at-none : (u : ℕ) → progress patch 0 u ≡ at-unit (Full 0) 0
 
 -- the example worked on with the quotas 15, 0 and 1, in any lists that have places enough: working, working, found
 abbrev pub Portions : Type 0
 Portions =
     (states : List ℕ) (rows : List Row) (v w x y : View ℕ) (p q r : Progress) →
-    Made shirt states rows v → 4 ≤ places v →
-    Worked shirt 15 v p w → Worked shirt 0 w q x → Worked shirt 1 x r y →
+    Made patch states rows v → 4 ≤ places v →
+    Worked patch 15 v p w → Worked patch 0 w q x → Worked patch 1 x r y →
     (p ≡ at-unit Working 15) × ((q ≡ at-unit Working 15) × (r ≡ at-unit (Found 2) 16))
 
 -- all cases

@@ -1,7 +1,7 @@
 //! Asks of states that are not in the list, before and after the end of a search.
 
 use crate::example::book_of;
-use crate::shirts::shirt;
+use crate::patches::patch;
 use crate::spots::slip_rows;
 use crate::spots::slip_wanted;
 use crate::spots::table;
@@ -41,7 +41,7 @@ fn ask_twice<B: Book>(
 
 // Asks of a cell where the example fits, where it does not, and where there is no place.
 fn ask_cell(rt: &LibcRuntime, name: &str, cell: u64) -> Result<(), AnyError> {
-    let book = book_of(shirt())?;
+    let book = book_of(patch())?;
     let mut states = [0u64; 4];
     let mut rows = [BLANK; 4];
     ask_twice(rt, name, &book, &mut states, &mut rows, cell)?;

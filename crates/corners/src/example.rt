@@ -1,6 +1,6 @@
 //! The plan of the example.
 
-use crate::shirts::shirt;
+use crate::patches::patch;
 use crate::words::Asked;
 use crate::words::AskedWords;
 use crate::words::BLANK;
@@ -39,7 +39,7 @@ fn name_of(answer: Result<Row, AskStop>) -> &'static str {
 
 // The plan of the example, place by place.
 fn plan(rt: &LibcRuntime) -> Result<(), AnyError> {
-    let book = book_of(shirt())?;
+    let book = book_of(patch())?;
     let mut states = [0u64; 8];
     let mut rows = [BLANK; 8];
     let mut session = Session::new(&book, &mut states, &mut rows);
@@ -59,7 +59,7 @@ fn plan(rt: &LibcRuntime) -> Result<(), AnyError> {
 pub(crate) fn report(rt: &LibcRuntime) -> Result<(), AnyError> {
     plan(rt)?;
     println!(rt, "Its lines:")?;
-    let printout = print_sheet(rt.alloc(), shirt())?;
+    let printout = print_sheet(rt.alloc(), patch())?;
     rt.stdout().write_all(printout.text.as_slice())?;
     Ok(())
 }

@@ -3,8 +3,8 @@
 mod asks;
 mod chains;
 mod example;
+mod patches;
 mod quotas;
-mod shirts;
 mod spots;
 mod variants;
 mod words;

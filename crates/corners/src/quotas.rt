@@ -1,7 +1,7 @@
 //! The example searched in portions, and in few places.
 
 use crate::example::book_of;
-use crate::shirts::shirt;
+use crate::patches::patch;
 use crate::words::BLANK;
 use crate::words::Told;
 use crate::words::ToldWords;
@@ -14,7 +14,7 @@ const MANY: usize = 8;
 
 // Works for one quota after another, and tells where the search stands after each.
 fn portions(rt: &LibcRuntime, places: usize, quotas: &[u32]) -> Result<(), AnyError> {
-    let book = book_of(shirt())?;
+    let book = book_of(patch())?;
     let mut states = [0u64; MANY];
     let mut rows = [BLANK; MANY];
     let places = places.min(MANY);

@@ -1,10 +1,10 @@
 //! Sheets that differ from the example in one thing, and formulas at its start.
 
 use crate::example::book_of;
-use crate::shirts::shirt;
-use crate::shirts::shirt_half_seen;
-use crate::shirts::shirt_mended;
-use crate::shirts::shirt_unseen;
+use crate::patches::patch;
+use crate::patches::patch_half_seen;
+use crate::patches::patch_mended;
+use crate::patches::patch_unseen;
 use crate::words::tell_text;
 use knowledge::CellBook;
 use knowledge::evaluate;
@@ -65,9 +65,9 @@ pub(crate) fn report(rt: &LibcRuntime) -> Result<(), AnyError> {
     tell_goal(rt, "Goal &a", b"&a")?;
     tell_goal(rt, "Goal ab", b"ab")?;
     tell_goal(rt, "Goal Kb", b"Kb")?;
-    tell_act(rt, "Look", shirt(), 0)?;
-    tell_act(rt, "Look with only its event a", shirt_half_seen(), 0)?;
-    tell_sheet(rt, "With only that event", shirt_half_seen())?;
-    tell_sheet(rt, "Without look", shirt_unseen())?;
-    tell_sheet(rt, "A start that is a goal, no acts", shirt_mended())
+    tell_act(rt, "Look", patch(), 0)?;
+    tell_act(rt, "Look with only its event a", patch_half_seen(), 0)?;
+    tell_sheet(rt, "With only that event", patch_half_seen())?;
+    tell_sheet(rt, "Without look", patch_unseen())?;
+    tell_sheet(rt, "A start that is a goal, no acts", patch_mended())
 }

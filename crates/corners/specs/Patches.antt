@@ -19,27 +19,27 @@ cell m = m ∷ 0 ∷ 0 ∷ 0 ∷ 0 ∷ 0 ∷ 0 ∷ 0 ∷ []
 abbrev event : ℕ → ℕ → ℕ → ℕ → List ℕ → List ℕ
 event class set clear size condition = class ∷ set ∷ clear ∷ size ∷ condition
 
--- a shirt may be folded (`a`) and may be mended (`b`). The event of seeing that it is folded
+-- a patch may be folded (`a`) and may be mended (`b`). The event of seeing that it is folded
 abbrev pub look-folded : List ℕ
 look-folded = event 0 0 0 1 (codes "a")
 
--- to look: to see that the shirt is folded, or to see that it is not
+-- to look: to see that the patch is folded, or to see that it is not
 abbrev pub look : List ℕ
 look = look-folded ++ event 1 0 0 2 (codes "!a")
 
--- to unfold mends a folded shirt, which is then no longer folded
+-- to unfold mends a folded patch, which is then no longer folded
 abbrev pub open-out : List ℕ
 open-out = event 0 2 1 1 (codes "a")
 
--- to smooth mends a shirt that is not folded
+-- to smooth mends a patch that is not folded
 abbrev pub smooth : List ℕ
 smooth = event 0 2 0 2 (codes "!a")
 
--- the example: all that is known is that the shirt is not mended, and it is to be mended
+-- the example: all that is known is that the patch is not mended, and it is to be mended
 abbrev pub example : List ℕ
 example = 2 ∷ 3 ∷ pair 22 8 ++ pair 30 1 ++ pair 31 11 ++ pair 42 5 ++ pair 47 6 ++ cell 3 ++ codes "b" ++ look ++ open-out ++ smooth
 
--- the same, where to look is only to see that the shirt is folded
+-- the same, where to look is only to see that the patch is folded
 abbrev pub half-look : List ℕ
 half-look = 2 ∷ 3 ∷ pair 22 8 ++ pair 30 1 ++ pair 31 5 ++ pair 36 5 ++ pair 41 6 ++ cell 3 ++ codes "b" ++ look-folded ++ open-out ++ smooth
 
@@ -47,6 +47,6 @@ half-look = 2 ∷ 3 ∷ pair 22 8 ++ pair 30 1 ++ pair 31 5 ++ pair 36 5 ++ pair
 abbrev pub without-look : List ℕ
 without-look = 2 ∷ 2 ∷ pair 18 8 ++ pair 26 1 ++ pair 27 5 ++ pair 32 6 ++ cell 3 ++ codes "b" ++ open-out ++ smooth
 
--- the shirt is mended, and there is no act
+-- the patch is mended, and there is no act
 abbrev pub mended : List ℕ
 mended = 2 ∷ 0 ∷ pair 10 8 ++ pair 18 1 ++ cell 12 ++ codes "b"
