@@ -12,6 +12,7 @@ use session::Session;
 use std::alloc::AllocError;
 use std::alloc::Global;
 use std::error::AnyError;
+use tables::MoveTable;
 use tables::Spot;
 use tables::TableBook;
 use tables::TableRow;
@@ -63,8 +64,40 @@ fn tell_chain(rt: &LibcRuntime, moves: usize, asked: usize) -> Result<(), AnyErr
     Ok(())
 }
 
-/// A chain with ranks in the hundreds, and one through all spots.
+// So many rows, eight for each spot in turn.
+fn eights(heap: Global, count: usize) -> Result<Vec<TableRow>, AllocError> {
+    let mut rows = Vec::new(heap);
+    for i in 0..count {
+        rows.push(TableRow {
+            from: spot(i / 8),
+            act: 0,
+            to: ORIGIN,
+        })?;
+    }
+    Ok(rows)
+}
+
+// What becomes of a table of so many rows.
+fn tell_size(rt: &LibcRuntime, count: usize) -> Result<(), AnyError> {
+    let rows = eights(rt.alloc(), count)?;
+    match MoveTable::new(1, ORIGIN, &NEVER, rows.as_slice()) {
+        Ok(_) => println!(rt, "A table with {count} rows is accepted.")?,
+        Err(fault) => {
+            let number = fault.number();
+            let place = fault.place();
+            println!(
+                rt,
+                "A table with {count} rows: stop {number} at place {place}."
+            )?;
+        }
+    }
+    Ok(())
+}
+
+/// A chain with ranks in the hundreds, one through all spots, and tables of as many rows as there may be, and one more.
 pub(crate) fn report(rt: &LibcRuntime) -> Result<(), AnyError> {
     tell_chain(rt, 299, 100)?;
-    tell_chain(rt, 4095, 4095)
+    tell_chain(rt, 4095, 4095)?;
+    tell_size(rt, 32_768)?;
+    tell_size(rt, 32_769)
 }
