@@ -8,6 +8,9 @@ use lib.ListN.{length, getD, replicate}
 use Rattle.std.specs.Iters.{counting}
 use Rattle.std.specs.declared.option.Option.{Option}
 use Rattle.std.specs.declared.option.Option.the-variants.{Some, None}
+use Rattle.std.specs.declared.result.Result.{Result}
+use Rattle.std.specs.declared.result.Result.the-variants.{Ok, Err}
+use Rattle.sheets.specs.declared.fault.SheetFault.{SheetFault}
 use Rattle.sheets.specs.Formulas.{Formula}
 use Rattle.sheets.specs.Reading.{Parts, parts}
 use Rattle.planning.specs.Meaning.{Meaning}
@@ -54,6 +57,11 @@ module _ (p : Parts) where
 -- the parts that a book is made of
 abbrev pub content : KnowledgeBook → Parts
 content b = parts (b .sheet)
+
+-- what reading a book gives: the parts that it is made of, or the first fault
+abbrev pub book-read : Result KnowledgeBook SheetFault → Result Parts SheetFault
+book-read (Ok b) = Ok (content b)
+book-read (Err t) = Err t
 
 -- the bytes that the program answers, if any
 abbrev pub bytes-of : Option (RefT (List ℕ)) → Option (List ℕ)

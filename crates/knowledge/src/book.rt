@@ -11,7 +11,8 @@ ghost use Rattle.std.specs.declared.option.Option.the-variants.{None, Some};
 ghost use Rattle.std.specs.shelf.Maps.{nth};
 ghost use Rattle.sheets.specs.Reading.{act-bytes};
 ghost use Rattle.epistemic.specs.Bits.{bit};
-ghost use Rattle.knowledge.specs.Books.{askable, book-meaning, bytes-of, class-masks, content, letters, outcomes-at};
+ghost use Rattle.knowledge.specs.Books.{book-read, askable, book-meaning, bytes-of, class-masks, content, letters, outcomes-at};
+ghost use Rattle.sheets.specs.Reading.{read-sheet};
 ghost use Rattle.knowledge.specs.Claims.{Goal-right, Outcomes-right, Same-right, Texts-read};
 ghost use Rattle.knowledge.specs.Moves.{Landed, class-outcome, moves-at};
 use crate::cell::fits;
@@ -23,6 +24,7 @@ use crate::update::nth_nonempty;
 use crate::update::updated;
 use planning::Book;
 use sheets::Sheet;
+use sheets::SheetFault;
 
 /// A book over the bytes of a sheet, whose states are cells: masks with bit v set for each valuation v that the agent
 /// thinks possible.
@@ -38,6 +40,14 @@ impl<'a> KnowledgeBook<'a> {
         ensures texts { λ r. ⌜ Texts-read (content r) ⌝ }
     {
         KnowledgeBook { sheet }
+    }
+
+    /// The book of the sheet that the bytes are. Refused as reading the sheet is, with the first fault.
+    pub fn read(bytes: &'a [u8]) -> Result<KnowledgeBook<'a>, SheetFault>
+        ensures { λ r. ⌜ book-read r ≡ read-sheet (now (bytes .entry)) ⌝ }
+    {
+        let sheet = Sheet::read(bytes)?;
+        Ok(KnowledgeBook::new(sheet))
     }
 
     /// How many features there are: six at most.
