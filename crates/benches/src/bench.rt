@@ -13,7 +13,7 @@ use session::{Bench, CarryStop};
 impl<S: Copy> ScriptBench<S> {
     /// A bench that stands in the book's start, with the first 64 bytes of the choices, or all if there are fewer.
     pub fn new<B: Book<State = S>>(book: &B, choices: &[u8]) -> Self
-        ensures { script result ≡ record { state = (meaning book.now).start; bytes = take 64 choices.now } }
+        ensures { script result ≡ record { state = (B.meaning book.now).start; bytes = take 64 choices.now } }
     {
         let count = choices.len().min(64);
         let next = 64 - count;
@@ -31,7 +31,7 @@ impl<S: Copy> ScriptBench<S> {
 
 // The number of outcomes of an act.
 fn outcomes<B: Book>(book: &B, s: B::State, act: u8) -> u8
-    ensures { result ≡ length ((meaning book.now).outcomes s act) }
+    ensures { result ≡ length ((B.meaning book.now).outcomes s act) }
 {
     for number in 0..8 {
         match book.outcome(s, act, number) {
@@ -59,10 +59,10 @@ impl<S: Copy, B: Book<State = S>> Bench<B> for ScriptBench<S> {
     }
 
     fn carry(&mut self, book: &B, act: u8) -> Result<(), CarryStop>
-        ensures carried { Carried (meaning book.now) (post (script self.old)) act (carry_number result) (post (script self.new)) }
+        ensures carried { Carried (B.meaning book.now) (post (script self.old)) act (carry_number result) (post (script self.new)) }
         ensures refused { (e : CarryStop) → result ≡ Err e → self.new ≡ self.old }
-        ensures answer { result ≡ carry_answer (meaning book.now) (script self.old) act }
-        ensures leaves { script self.new ≡ carry_leaves (meaning book.now) (script self.old) act }
+        ensures answer { result ≡ carry_answer (B.meaning book.now) (script self.old) act }
+        ensures leaves { script self.new ≡ carry_leaves (B.meaning book.now) (script self.old) act }
     {
         if self.next >= 64 {
             return Err(CarryStop::NotReady);

@@ -1,5 +1,7 @@
 //! Benches over any book.
 
+#![tactic(auto)]
+
 mod bench;
 mod script;
 

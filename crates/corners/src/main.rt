@@ -1,5 +1,7 @@
 //! Plans small books whose answers can be worked out by hand, tries the rules at their corners, and prints a report.
 
+#![tactic(auto)]
+
 mod asks;
 mod chains;
 mod example;

@@ -1,5 +1,7 @@
 //! Epistemic models, event models and product update, and cells of valuations as such models.
 
+#![tactic(auto)]
+
 ghost use Rattle.epistemic.specs.Claims.{MasksLawful};
 ghost use Rattle.epistemic.specs.Laws.{CellsConnected, Duals, Invariance, TruthLocal, UpdateLawful};
 

@@ -1,5 +1,7 @@
 //! Knowledge books: cells of valuations, and acts whose events tell the agent something and change features.
 
+#![tactic(auto)]
+
 mod book;
 mod cell;
 mod event;

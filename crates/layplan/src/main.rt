@@ -1,5 +1,7 @@
 //! Reads a sheet on standard input and prints its plan, or where the sheet is wrong.
 
+#![tactic(auto)]
+
 #[cfg(test)]
 mod tests;
 

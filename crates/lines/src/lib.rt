@@ -1,5 +1,7 @@
 //! The lines that tell how a search ended: one for the whole, and one for each place.
 
+#![tactic(auto)]
+
 ghost use Rattle.session.specs.Views.{view};
 ghost use Rattle.lines.specs.Calls.{Printed};
 
@@ -35,7 +37,7 @@ pub fn line<B: Book>(
     index: usize,
     buffer: &mut [u8],
 ) -> Result<usize, LineStop>
-    ensures { Printed (meaning book.now) index (view session.now) buffer.old result buffer.new }
+    ensures { Printed (B.meaning book.now) index (view session.now) buffer.old result buffer.new }
 {
     if buffer.len() < ROOM {
         return Err(LineStop::Short);

@@ -48,7 +48,7 @@ fn wide(rank: Option<u16>) -> Option<usize>
 
 // Writes the places of the outcomes that an act has in s.
 fn outcomes<B: Book>(text: &mut Text, book: &B, states: &[B::State], s: B::State, act: u8)
-    ensures { Adds text.old (spaced (outcome_words (meaning book.now) states.now s (Some act))) text.new }
+    ensures { Adds text.old (spaced (outcome_words (B.meaning book.now) states.now s (Some act))) text.new }
 {
     for number in 0..8 {
         match book.outcome(s, act, number) {
@@ -66,7 +66,7 @@ fn act_and_outcomes<B: Book>(
     s: B::State,
     act: Option<u8>,
 )
-    ensures { Adds text.old (spaced (number_word act ∷ outcome_words (meaning book.now) states.now s act)) text.new }
+    ensures { Adds text.old (spaced (number_word act ∷ outcome_words (B.meaning book.now) states.now s act)) text.new }
 {
     match act {
         Some(act) => {
@@ -79,7 +79,7 @@ fn act_and_outcomes<B: Book>(
 
 // The line of a state that is listed at place i with that row.
 fn row_line<B: Book>(book: &B, states: &[B::State], i: usize, s: B::State, row: Row) -> Text
-    ensures { text result ≡ clip (sentence (place_words (meaning book.now) states.now i (Some s) (Some row))) }
+    ensures { text result ≡ clip (sentence (place_words (B.meaning book.now) states.now i (Some s) (Some row))) }
 {
     let mut text = Text::new();
     text.number(i);
@@ -91,7 +91,7 @@ fn row_line<B: Book>(book: &B, states: &[B::State], i: usize, s: B::State, row: 
 
 // The line of place i, or none where no state is listed there.
 fn place_line<B: Book>(book: &B, states: &[B::State], rows: &[Row], i: usize) -> Text
-    ensures { text result ≡ clip (sentence (place_words (meaning book.now) states.now i (slice_get states.now i) (slice_get rows.now i))) }
+    ensures { text result ≡ clip (sentence (place_words (B.meaning book.now) states.now i (slice_get states.now i) (slice_get rows.now i))) }
 {
     if i >= states.len() || i >= rows.len() {
         return Text::new();
@@ -101,7 +101,7 @@ fn place_line<B: Book>(book: &B, states: &[B::State], rows: &[Row], i: usize) ->
 
 // The line of that index, as the session holds it.
 pub(crate) fn told<B: Book>(session: &Session<'_, B::State>, book: &B, index: usize) -> Text
-    ensures { text result ≡ clip (held_text (meaning book.now) (view session.now) index) }
+    ensures { text result ≡ clip (held_text (B.meaning book.now) (view session.now) index) }
 {
     let progress = session.progress();
     let states = session.states();

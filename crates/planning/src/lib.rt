@@ -1,5 +1,7 @@
 //! Books of moves, finite plans over them, and ranks: in how few acts the goal is reached whatever the outcomes.
 
+#![tactic(auto)]
+
 ghost use Rattle.std.specs.Prelude.{◌≡◌};
 ghost use Rattle.std.specs.List.{slice_get};
 ghost use Rattle.planning.specs.Finding.{place_of};
@@ -44,7 +46,7 @@ pub trait Book {
 
 /// The first place of the list whose state is the same as `s`.
 pub fn find<B: Book>(book: &B, states: &[B::State], s: B::State) -> Option<usize>
-    ensures { result ≡ place_of (meaning book.now) states.now s }
+    ensures { result ≡ place_of (B.meaning book.now) states.now s }
 {
     for i in 0..states.len() {
         if book.same(states[i], s) {
@@ -56,7 +58,7 @@ pub fn find<B: Book>(book: &B, states: &[B::State], s: B::State) -> Option<usize
 
 /// The theory of ranks and finding lists, for every book. Its contract is the theorem; it answers nothing.
 pub fn ranks_are_depths<B: Book>(book: &B)
-    ensures depth { RankIsDepth (meaning book.now) }
-    ensures settled { RanksSettled (meaning book.now) }
-    ensures grows { ListGrows (meaning book.now) }
+    ensures depth { RankIsDepth (B.meaning book.now) }
+    ensures settled { RanksSettled (B.meaning book.now) }
+    ensures grows { ListGrows (B.meaning book.now) }
 {}

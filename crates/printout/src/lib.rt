@@ -1,5 +1,7 @@
 //! All that is printed of a sheet: one function from the sheet's bytes to the output's bytes.
 
+#![tactic(auto)]
+
 mod plan;
 mod stop;
 

@@ -16,7 +16,7 @@ const PLACES: usize = 4096;
 
 /// All lines of a book's plan, searched for in 4,096 places.
 pub fn print_plan<B: Book>(heap: Global, book: &B) -> Result<Vec<u8>, AllocError>
-    ensures { IfOk result (λ t. t.items ≡ plan_text (meaning book.now)) }
+    ensures { IfOk result (λ t. t.items ≡ plan_text (B.meaning book.now)) }
 {
     let mut states = places_of(heap, book.start())?;
     let mut rows = places_of(heap, BLANK)?;
@@ -42,7 +42,7 @@ fn session_lines<B: Book>(
     book: &B,
     session: &Session<'_, B::State>,
 ) -> Result<Vec<u8>, AllocError>
-    ensures { IfOk result (λ t. ((u : ℕ) → Stands (meaning book.now) u (view session.now) → t.items ≡ all_lines (meaning book.now) (places (view session.now)) u)) }
+    ensures { IfOk result (λ t. ((u : ℕ) → Stands (B.meaning book.now) u (view session.now) → t.items ≡ all_lines (B.meaning book.now) (places (view session.now)) u)) }
 {
     let mut text = Vec::new(heap);
     add_line(&mut text, book, session, 0)?;
@@ -59,7 +59,7 @@ fn add_line<B: Book>(
     session: &Session<'_, B::State>,
     index: usize,
 ) -> Result<(), AllocError>
-    ensures { OnOk result (((u : ℕ) → Stands (meaning book.now) u (view session.now) → text.new.items ≡ text.old.items ++ line_text (meaning book.now) (places (view session.now)) u index)) }
+    ensures { OnOk result (((u : ℕ) → Stands (B.meaning book.now) u (view session.now) → text.new.items ≡ text.old.items ++ line_text (B.meaning book.now) (places (view session.now)) u index)) }
 {
     let mut buffer = [0u8; 64];
     match line(session, book, index, &mut buffer) {

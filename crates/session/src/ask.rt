@@ -12,7 +12,7 @@ impl<'a, S: Copy> Session<'a, S> {
     /// The row of the first listed state that is the same as `s`; a blank rank is an answer too. Refused while working,
     /// then at full, then where no listed state is the same.
     pub fn ask<B: Book<State = S>>(&self, book: &B, s: S) -> Result<Row, AskStop>
-        ensures { Asked (meaning book.now) s (view self.now) result (view self.now) }
+        ensures { Asked (B.meaning book.now) s (view self.now) result (view self.now) }
     {
         match self.record.progress.standing {
             Standing::Working => Err(AskStop::Working),

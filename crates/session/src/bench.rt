@@ -32,6 +32,6 @@ pub trait Bench<B: Book> {
     /// may have changed. Refused where the bench is not ready, then where the act is not applicable in its state;
     /// nothing has changed then.
     fn carry(&mut self, book: &B, act: u8) -> Result<(), CarryStop>
-        ensures carried { Carried (meaning book.now) (record { state = stands self.old; ready = fit book.now self.old }) act (carry_number result) (record { state = stands self.new; ready = fit book.now self.new }) }
+        ensures carried { Carried (B.meaning book.now) (record { state = stands self.old; ready = fit book.now self.old }) act (carry_number result) (record { state = stands self.new; ready = fit book.now self.new }) }
         ensures refused { (e : CarryStop) → result ≡ Err e → self.new ≡ self.old };
 }

@@ -13,7 +13,7 @@ use planning::Book;
 
 // The row with which a state joins: rank 0 if it is a goal, else blank.
 pub(crate) fn fresh_row<B: Book>(book: &B, s: B::State) -> Row
-    ensures { result ≡ row_by (meaning book.now) 0 s }
+    ensures { result ≡ row_by (B.meaning book.now) 0 s }
 {
     let rank = if book.goal(s) { Some(0) } else { None };
     Row { rank, act: None }
@@ -22,7 +22,7 @@ pub(crate) fn fresh_row<B: Book>(book: &B, s: B::State) -> Row
 impl<'a, S: Copy> Session<'a, S> {
     // Joins s unless a same state is listed; false if there is no place for it.
     fn join<B: Book<State = S>>(&mut self, book: &B, s: S) -> bool
-        ensures joins { Joins (meaning book.now) (s ∷ []) (view self.old) result (view self.new) }
+        ensures joins { Joins (B.meaning book.now) (s ∷ []) (view self.old) result (view self.new) }
         ensures lent { SameLists self.old self.new }
     {
         let listed = self.record.listed as usize;
@@ -43,7 +43,7 @@ impl<'a, S: Copy> Session<'a, S> {
 
     // Joins the outcomes of one act; false if there is no place for one.
     fn join_outcomes<B: Book<State = S>>(&mut self, book: &B, s: S, act: u8) -> bool
-        ensures joins { Joins (meaning book.now) ((meaning book.now).outcomes s act) (view self.old) result (view self.new) }
+        ensures joins { Joins (B.meaning book.now) ((B.meaning book.now).outcomes s act) (view self.old) result (view self.new) }
         ensures lent { SameLists self.old self.new }
     {
         for number in 0..8 {
@@ -61,7 +61,7 @@ impl<'a, S: Copy> Session<'a, S> {
 
     // Joins the outcomes of all acts; false if there is no place for one.
     fn expand<B: Book<State = S>>(&mut self, book: &B, s: S) -> bool
-        ensures joins { Joins (meaning book.now) (outcomes_from (meaning book.now) s 0 (meaning book.now).acts) (view self.old) result (view self.new) }
+        ensures joins { Joins (B.meaning book.now) (outcomes_from (B.meaning book.now) s 0 (B.meaning book.now).acts) (view self.old) result (view self.new) }
         ensures lent { SameLists self.old self.new }
     {
         for act in 0..book.acts() {
@@ -74,7 +74,7 @@ impl<'a, S: Copy> Session<'a, S> {
 
     // A unit that expands a place.
     pub(crate) fn expand_place<B: Book<State = S>>(&mut self, book: &B)
-        ensures moves { Moves (meaning book.now) (self.old.«record».progress.units < self.old.«record».listed) (view self.old) (view self.new) }
+        ensures moves { Moves (B.meaning book.now) (self.old.«record».progress.units < self.old.«record».listed) (view self.old) (view self.new) }
         ensures lent { SameLists self.old self.new }
     {
         let units = self.record.progress.units;

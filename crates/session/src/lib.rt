@@ -1,5 +1,7 @@
 //! A session searches for a strong plan over a book, unit by unit, in two lists that the caller lends.
 
+#![tactic(auto)]
+
 mod apart;
 mod ask;
 mod bench;

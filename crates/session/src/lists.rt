@@ -65,7 +65,7 @@ impl<'a, S: Copy> Session<'a, S> {
 
     // The first listed place whose state is the same as s.
     pub(crate) fn place<B: Book<State = S>>(&self, book: &B, s: S) -> Option<usize>
-        ensures { result ≡ place_of (meaning book.now) (take self.now.«record».listed self.now.states.now) s }
+        ensures { result ≡ place_of (B.meaning book.now) (take self.now.«record».listed self.now.states.now) s }
     {
         find(book, self.states(), s)
     }
@@ -86,7 +86,7 @@ impl<'a, S: Copy> Session<'a, S> {
 
     // The row of the first listed place whose state is the same as s.
     pub(crate) fn row_of<B: Book<State = S>>(&self, book: &B, s: S) -> Option<Row>
-        ensures { result ≡ row_told (meaning book.now) (view self.now) s }
+        ensures { result ≡ row_told (B.meaning book.now) (view self.now) s }
     {
         match self.place(book, s) {
             Some(p) => self.row(p),

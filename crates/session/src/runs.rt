@@ -20,7 +20,7 @@ impl<'a, S: Copy> Session<'a, S> {
         call: Call<S>,
         benches: &mut [K],
     ) -> Answer
-        ensures made { CallMade (meaning book.now) (posts_of stands (fit book.now) benches.old) (view self.old) call result (posts_of stands (fit book.now) benches.new) (view self.new) }
+        ensures made { CallMade (B.meaning book.now) (posts_of K.stands (K.fit book.now) benches.old) (view self.old) call result (posts_of K.stands (K.fit book.now) benches.new) (view self.new) }
         ensures lent { SameLists self.old self.new }
     {
         match call {
@@ -57,9 +57,9 @@ pub fn replay<B: Book, K: Bench<B>>(
     answers: &mut [Answer],
 ) -> usize
     ensures count { result ≡ min (length calls.now) (length answers.old) }
-    ensures run { (v : View B.State) × (Replay (meaning book.now) states.old rows.old (posts_of stands (fit book.now) benches.old) (take result calls.now) (take result answers.new) (posts_of stands (fit book.now) benches.new) v × ((states.new ≡ v.states) × (rows.new ≡ v.rows))) }
+    ensures run { (v : View B.State) × (Replay (B.meaning book.now) states.old rows.old (posts_of K.stands (K.fit book.now) benches.old) (take result calls.now) (take result answers.new) (posts_of K.stands (K.fit book.now) benches.new) v × ((states.new ≡ v.states) × (rows.new ≡ v.rows))) }
     ensures unused { drop result answers.new ≡ drop result answers.old }
-    ensures promise { Promise (meaning book.now) }
+    ensures promise { Promise (B.meaning book.now) }
 {
     let record = begin(book, states, rows);
     let mut session = Session {

@@ -27,7 +27,7 @@ fn some_rank(rows: &[Row], j: u16) -> bool
 impl<'a, S: Copy> Session<'a, S> {
     // Whether s is listed with a rank below j.
     fn below<B: Book<State = S>>(&self, book: &B, s: S, j: u16) -> bool
-        ensures { result ≡ told (meaning book.now) (view self.now) j s }
+        ensures { result ≡ told (B.meaning book.now) (view self.now) j s }
     {
         match self.row_of(book, s) {
             Some(row) => rank_below(row.rank, j),
@@ -37,7 +37,7 @@ impl<'a, S: Copy> Session<'a, S> {
 
     // Whether the act is applicable in s and has only outcomes of rank below j.
     fn allows<B: Book<State = S>>(&self, book: &B, s: S, act: u8, j: u16) -> bool
-        ensures { result ≡ brings (meaning book.now) (told (meaning book.now) (view self.now) j) s act }
+        ensures { result ≡ brings (B.meaning book.now) (told (B.meaning book.now) (view self.now) j) s act }
     {
         for number in 0..8 {
             match book.outcome(s, act, number) {
@@ -54,7 +54,7 @@ impl<'a, S: Copy> Session<'a, S> {
 
     // The lowest act that brings s to ranks below j.
     fn judge<B: Book<State = S>>(&self, book: &B, s: S, j: u16) -> Option<u8>
-        ensures { result ≡ choice (meaning book.now) (view self.now) j s }
+        ensures { result ≡ choice (B.meaning book.now) (view self.now) j s }
     {
         for act in 0..book.acts() {
             if self.allows(book, s, act, j) {
@@ -67,7 +67,7 @@ impl<'a, S: Copy> Session<'a, S> {
     // Gives place i the rank j if its row is blank and ranks below j allow it.
     fn visit<B: Book<State = S>>(&mut self, book: &B, i: usize, j: u16)
         ensures states { self.new.states.now ≡ self.old.states.now }
-        ensures rows { self.new.rows.now ≡ visited (meaning book.now) (view self.old) i j }
+        ensures rows { self.new.rows.now ≡ visited (B.meaning book.now) (view self.old) i j }
         ensures plain { self.new.«record» ≡ self.old.«record» }
         ensures lent { SameLists self.old self.new }
     {
@@ -111,7 +111,7 @@ impl<'a, S: Copy> Session<'a, S> {
 
     // A unit that visits a place.
     pub(crate) fn visit_place<B: Book<State = S>>(&mut self, book: &B)
-        ensures moves { Moves (meaning book.now) (self.old.«record».listed ≤ self.old.«record».progress.units) (view self.old) (view self.new) }
+        ensures moves { Moves (B.meaning book.now) (self.old.«record».listed ≤ self.old.«record».progress.units) (view self.old) (view self.new) }
         ensures lent { SameLists self.old self.new }
     {
         let units = self.record.progress.units;

@@ -17,7 +17,7 @@ use planning::Book;
 impl<'a, S: Copy> Session<'a, S> {
     // The first listed place whose state is the same as s, with its rank, if it has one.
     fn ranked_place<B: Book<State = S>>(&self, book: &B, s: S) -> Option<(usize, u16)>
-        ensures { result ≡ ranked_place (meaning book.now) (view self.now) s }
+        ensures { result ≡ ranked_place (B.meaning book.now) (view self.now) s }
     {
         let place = self.place(book, s)?;
         let row = self.row(place)?;
@@ -33,7 +33,7 @@ impl<'a, S: Copy> Session<'a, S> {
         book: &B,
         bench: &K,
     ) -> Result<u16, StartStop>
-        ensures started { Started (meaning book.now) (record { state = stands bench.now; ready = fit book.now bench.now }) (view self.old) result (view self.new) }
+        ensures started { Started (B.meaning book.now) (record { state = K.stands bench.now; ready = K.fit book.now bench.now }) (view self.old) result (view self.new) }
         ensures refused { (e : StartStop) → result ≡ Err e → view self.new ≡ view self.old }
         ensures lent { SameLists self.old self.new }
     {
@@ -64,7 +64,7 @@ impl<'a, S: Copy> Session<'a, S> {
         book: &B,
         bench: &mut K,
     ) -> Result<Step, StepStop>
-        ensures stepped { Stepped (meaning book.now) (record { state = stands bench.old; ready = fit book.now bench.old }) (view self.old) result (record { state = stands bench.new; ready = fit book.now bench.new }) (view self.new) }
+        ensures stepped { Stepped (B.meaning book.now) (record { state = K.stands bench.old; ready = K.fit book.now bench.old }) (view self.old) result (record { state = K.stands bench.new; ready = K.fit book.now bench.new }) (view self.new) }
         ensures refused { (e : StepStop) → result ≡ Err e → (view self.new ≡ view self.old) × (bench.new ≡ bench.old) }
         ensures goal { result ≡ Ok Goal → (view self.new ≡ view self.old) × (bench.new ≡ bench.old) }
         ensures lent { SameLists self.old self.new }

@@ -24,7 +24,7 @@ fn fresh_record(listed: u16, standing: Standing) -> Record
 
 // Writes a fresh search into two lists, and answers all of it but its lists.
 pub(crate) fn begin<B: Book>(book: &B, states: &mut [B::State], rows: &mut [Row]) -> Record
-    ensures { Made (meaning book.now) states.entry.now rows.old (record { states = states.exit.now; rows = rows.new; plain = result }) }
+    ensures { Made (B.meaning book.now) states.old rows.old (record { states = states.new; rows = rows.new; plain = result }) }
 {
     let n = states.len().min(rows.len());
     if n == 0 {
@@ -40,7 +40,7 @@ impl<'a, S: Copy> Session<'a, S> {
     /// A fresh session over two lists: the start stands at place 0, with rank 0 if it is a goal. It is full at once where
     /// there is no place. Never refused; no other place is written.
     pub fn new<B: Book<State = S>>(book: &B, states: &'a mut [S], rows: &'a mut [Row]) -> Self
-        ensures { Made (meaning book.now) states.old rows.old (view result) }
+        ensures { Made (B.meaning book.now) states.old rows.old (view result) }
     {
         let record = begin(book, states, rows);
         Session {
@@ -52,7 +52,7 @@ impl<'a, S: Copy> Session<'a, S> {
 
     // One unit of work.
     fn unit<B: Book<State = S>>(&mut self, book: &B)
-        ensures moves { Moves (meaning book.now) (Unit {0}) (view self.old) (view self.new) }
+        ensures moves { Moves (B.meaning book.now) (Unit {0}) (view self.old) (view self.new) }
         ensures lent { SameLists self.old self.new }
     {
         if self.record.progress.units < self.record.listed as u32 {
@@ -75,9 +75,9 @@ impl<'a, S: Copy> Session<'a, S> {
     /// Works for at most `quota` units, fewer if the search is decided before, and answers where the search then stands
     /// and the units spent in all calls so far. Work in portions is work in one.
     pub fn work<B: Book<State = S>>(&mut self, book: &B, quota: u32) -> Progress
-        ensures worked { Worked (meaning book.now) quota (view self.old) result (view self.new) }
-        ensures course { Course (meaning book.now) }
-        ensures portions { Portions (meaning book.now) }
+        ensures worked { Worked (B.meaning book.now) quota (view self.old) result (view self.new) }
+        ensures course { Course (B.meaning book.now) }
+        ensures portions { Portions (B.meaning book.now) }
         ensures lent { SameLists self.old self.new }
     {
         let mut done = 0;

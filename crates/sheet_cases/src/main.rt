@@ -1,6 +1,8 @@
 //! Reads sheets at the edges of the rules and prints what is told of each: the parts' counts, or stop, number, section
 //! and place.
 
+#![tactic(auto)]
+
 use sheets::Sheet;
 use std::alloc::{AllocError, Global};
 

@@ -1,6 +1,8 @@
 //! Sheets of knowledge: formulas and events as bytes, the sections of a sheet, and reading a sheet or refusing it with a
 //! number, a section and a place.
 
+#![tactic(auto)]
+
 mod event;
 mod fault;
 mod formula;

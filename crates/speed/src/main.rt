@@ -1,5 +1,7 @@
 //! Times two searches, run by hand as `speed run` with a sheet on standard input. Without that word it only says so.
 
+#![tactic(auto)]
+
 use anyhow::anyhow;
 use knowledge::KnowledgeBook;
 use planning::Book;

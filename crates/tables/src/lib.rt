@@ -1,5 +1,7 @@
 //! Move tables: books whose states are spots, a zone and a level each, and whose moves are the rows of a table.
 
+#![tactic(auto)]
+
 mod checking;
 mod fault;
 mod looking;

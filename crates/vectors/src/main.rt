@@ -1,6 +1,8 @@
 //! Prints what `layplan` prints for each sheet of a collection. The sheets' names are the lines of standard input, and
 //! each sheet lies in a file of its name.
 
+#![tactic(auto)]
+
 use printout::print_sheet;
 use std::fs;
 use std::io::Write;

@@ -1,5 +1,7 @@
 //! Walks along the plan of the sheet on standard input, on script and world benches, for every choice of two acts.
 
+#![tactic(auto)]
+
 mod tell;
 
 use anyhow::anyhow;

@@ -1,6 +1,8 @@
 //! Cases small enough to be worked out by hand: sheets byte by byte and a table row by row, and one theorem that
 //! derives what is planned of them from the definitions.
 
+#![tactic(auto)]
+
 mod patches;
 mod slip;
 mod theorem;

@@ -12,8 +12,8 @@ returns-then-rank-is c =
 
 pub loop-i-preserved : goal.loop-i-preserved
 loop-i-preserved c =
-    let h = rank_step c.args.j c.args.rows.now c.loop-i.i _ c.rank-is.result c.loop-i-test.true c.rank-is.ensures in
-    let k = ap (λ b. b || has_rank c.args.j (drop (c.loop-i.i + 1) c.args.rows.now)) c.if-rank-is.false in
+    let h = rank_step c.args.j c.args.rows.now c.loop-i.i _ c.rank_is.result c.loop-i-test.true c.rank_is.ensures in
+    let k = ap (λ b. b || has_rank c.args.j (drop (c.loop-i.i + 1) c.args.rows.now)) c.if-rank_is.false in
     sym (h ∙ k) ∙ c.loop-i.invariant
 
 pub returns : goal.returns

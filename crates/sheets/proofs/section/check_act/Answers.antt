@@ -19,9 +19,9 @@ returns-in-err-check-event c =
 
 pub loop-count-preserved : goal.loop-count-preserved
 loop-count-preserved c =
-    let ok = sym c.in-ok-check-event.ensures in
+    let ok = sym c.in_ok-check_event.ensures in
     let few = condition_few c.args.features c.loop-count.at (entry c.in-Some.event) ok in
-    (act_goes c.args.features c.loop-count.at c.loop-count.-count c.args.bytes.now c.loop-count.rest.now c.in-Some.after.now (entry c.in-Some.event) c.loop-count-test.true (some_byte c.loop-count.rest.now c.if-is-empty-2.ensures) c.loop-count.invariant.0 (sym c.in-Some.ensures) ok, omega arith)
+    (act_goes c.args.features c.loop-count.at c.loop-count._count c.args.bytes.now c.loop-count.rest.now c.in-Some.after.now (entry c.in-Some.event) c.loop-count-test.true (some_byte c.loop-count.rest.now c.if-is-empty-2.ensures) c.loop-count.invariant.0 (sym c.in-Some.ensures) ok, omega arith)
 
 pub returns-else-is-empty-3 : goal.returns-else-is-empty-3
 returns-else-is-empty-3 c =

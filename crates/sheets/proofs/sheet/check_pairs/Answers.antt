@@ -13,4 +13,4 @@ loop-number-preserved c =
     let bs = c.args.sheet.now in
     let k = c.loop-number.number in
     let n = c.byte.result + 2 in
-    ap (λ e. pairs_check bs e (range_with_len (k + 1) (n - (k + 1)))) c.ending-end.ensures ∙ sym (pair_good bs n k c.loop-number-test.true c.loop-number.end (sym c.if-not-pair-fits.ensures)) ∙ c.loop-number.invariant
+    ap (λ e. pairs_check bs e (range_with_len (k + 1) (n - (k + 1)))) c.ending-end.ensures ∙ sym (pair_good bs n k c.loop-number-test.true c.loop-number.end (sym c.if-not-pair_fits.ensures)) ∙ c.loop-number.invariant

@@ -30,6 +30,6 @@ loop-section-preserved c =
     let place = c.loop-section.reader.place in
     let p = part c.in-Some.section in
     let h = handed_some bs rs k place c.loop-section.invariant.2 c.loop-section.invariant.1 p c.in-Some.ensures.answer in
-    let j = judged bs rs k place c.loop-section.invariant.2 c.loop-section.invariant.1 c.byte-features.result p (Ok tt) c.byte-features.ensures h.2 c.in-default-check-section.ensures in
+    let j = judged bs rs k place c.loop-section.invariant.2 c.loop-section.invariant.1 c.byte-features.result p (Ok tt) c.byte-features.ensures h.2 c.in_default-check_section.ensures in
     let m : k + 1 ≤ section_count (get_or bs 1 0) = omega arith in
     (sym (section_good bs (section_count (get_or bs 1 0)) k h.1 j) ∙ c.loop-section.invariant.0, place_on bs rs k place c.loop-section.invariant.2 c.loop-section.invariant.1 c.next.new.self.place h.0 c.in-Some.ensures.place, ap (λ r. r.now) c.in-Some.ensures.sheet ∙ c.loop-section.invariant.2, m)

@@ -12,4 +12,4 @@ returns-then-not-join-outcomes g c =
 pub loop-act-preserved : goal.loop-act-preserved
 loop-act-preserved g c =
     let m = g.B.Book.meaning c.args.book.now in
-    (lists_on c.args.self.now c.loop-act.self c.join-outcomes.new.self c.loop-act.invariant.0 c.if-not-join-outcomes.ensures.lent, act_joined m c.args.s c.loop-act.act (view c.args.self.now) (view c.loop-act.self) (view c.join-outcomes.new.self) c.loop-act.invariant.1 true c.if-not-join-outcomes.ensures.joins)
+    (lists_on c.args.self.now c.loop-act.self c.join_outcomes.new.self c.loop-act.invariant.0 c.if-not-join_outcomes.ensures.lent, act_joined m c.args.s c.loop-act.act (view c.args.self.now) (view c.loop-act.self) (view c.join_outcomes.new.self) c.loop-act.invariant.1 true c.if-not-join_outcomes.ensures.joins)

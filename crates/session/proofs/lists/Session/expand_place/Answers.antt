@@ -8,4 +8,4 @@ returns-in-default g c = record { lent = record { states = refl; rows = refl }; 
 
 pub returns : goal.returns
 returns g c =
-    record { lent = record { states = c.expand-fits.ensures.lent.states; rows = c.expand-fits.ensures.lent.rows }; moves = expand_moves (g.B.Book.meaning c.args.book.now) (view c.args.self.now) (view c.expand-fits.new.self) c.in-Some.s c.expand-fits.result c.standing-if-standing.result (sym c.state.ensures ∙ c.in-Some.is) c.expand-fits.ensures.joins c.standing-if-standing.ensures }
+    record { lent = record { states = c.expand-fits.ensures.lent.states; rows = c.expand-fits.ensures.lent.rows }; moves = expand_moves (g.B.Book.meaning c.args.book.now) (view c.args.self.now) (view c.expand-fits.new.self) c.in-Some.s c.expand-fits.result c.standing_if-standing.result (sym c.state.ensures ∙ c.in-Some.is) c.expand-fits.ensures.joins c.standing_if-standing.ensures }

@@ -33,6 +33,6 @@ returns g c =
     let e = ap (place_of m (listed_states m v)) (sym c.state.ensures) ∙ sym c.place.ensures ∙ c.in-Some.is in
     record {
       lent = record { states = refl; rows = refl };
-      started = start_begins m v _ c.in-default.not-Working c.in-default.not-Full c.in-Some.place c.in-Some-row.row c.in-Some-rank.rank e (sym c.row.ensures ∙ c.in-Some-row.is) c.in-Some-rank.is;
+      started = start_begins m v _ c.in_default.not-Working c.in_default.not-Full c.in-Some.place c.in-Some-row.row c.in-Some-rank.rank e (sym c.row.ensures ∙ c.in-Some-row.is) c.in-Some-rank.is;
       refused = λ e q. absurd (let z : ◌≡◌ {A = ℕ} 0 1 = cc in omega arith);
     }

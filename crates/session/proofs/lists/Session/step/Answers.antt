@@ -93,16 +93,16 @@ returns g c =
     let at = sym c.state.ensures ∙ c.in-Some-state.is in
     let near = holds (m.same s b) (ap (m.same s) (sym c.state-2.ensures) ∙ sym c.if-not-same.ensures) in
     let row = sym c.row.ensures ∙ c.in-Some-row.is in
-    let found = ap (ranked_place m v) (sym c.state-3.ensures) ∙ sym c.ranked_place.ensures ∙ c.in-Some-ranked-place.is in
+    let found = ap (ranked_place m v) (sym c.state-3.ensures) ∙ sym c.ranked_place.ensures ∙ c.in-Some-ranked_place.is in
     record {
       lent = record { states = refl; rows = refl };
       stepped =
           record {
-            answer = λ u h. step_acts m law v c.in-Some.walk c.in-Some.is u h _ s at near c.in-Some-row.row row c.in-Some-act.act c.in-Some-act.is _ c.in-ok-carry.ensures.carried.leaves c.in-Some-ranked-place.place c.in-Some-ranked-place.rank c.saturating-add.result found c.saturating-add.ensures;
+            answer = λ u h. step_acts m law v c.in-Some.walk c.in-Some.is u h _ s at near c.in-Some-row.row row c.in-Some-act.act c.in-Some-act.is _ c.in_ok-carry.ensures.carried.leaves c.in-Some-ranked_place.place c.in-Some-ranked_place.rank c.saturating_add.result found c.saturating_add.ensures;
             rest = record { states = refl; rows = refl; listed = refl; progress = refl };
           };
-      refused = λ e q. absurd (acted_refuses c.in-Some-act.act c.in-Some-ranked-place.rank e q);
-      goal = λ q. absurd (acted_goal c.in-Some-act.act c.in-Some-ranked-place.rank q);
+      refused = λ e q. absurd (acted_refuses c.in-Some-act.act c.in-Some-ranked_place.rank e q);
+      goal = λ q. absurd (acted_goal c.in-Some-act.act c.in-Some-ranked_place.rank q);
     }
 
 pub returns-in-default-ranked-place : goal.returns-in-default-ranked-place
