@@ -22,4 +22,4 @@ returns-in-Working g c =
 pub returns : goal.returns
 returns g c =
     printed (g.B.Book.meaning c.args.book.now) (g.met.B.Book.lawful c.args.book.now) c.args.index (view c.args.session.now) c.args.buffer.now (text c.told-text.result) c.put.new.buffer c.put.result c.if-buffer-lt-ROOM.false
-    (λ e. c.in-default.not-Working (ap (λ p. p.standing) c.progress.ensures ∙ e)) c.told-text.ensures c.put.ensures.answer c.put.ensures.after
+    (λ e. c.in_default.not-Working (ap (λ p. p.standing) c.progress.ensures ∙ e)) c.told-text.ensures c.put.ensures.answer c.put.ensures.after

@@ -3,8 +3,8 @@ use Rattle.std.proofs.lemmas.Nat.{one_shl}
 use Rattle.sheets.proofs.Masks.{shr_none, one_shifted}
 use Rattle.knowledge.proofs.cell.fits.Goals as goal
 
-pub overflow-shr-result : goal.overflow-shr-result
-overflow-shr-result c = one_shifted c.args.letters (omega arith)
+pub overflow_shr-result : goal.overflow_shr-result
+overflow_shr-result c = one_shifted c.args.letters (omega arith)
 
 pub returns-else-letters-eq6 : goal.returns-else-letters-eq6
 returns-else-letters-eq6 c =

@@ -4,8 +4,8 @@ use Rattle.std.proofs.lemmas.Nat.{one_shl, pow_below}
 use Rattle.epistemic.proofs.Features.{lowered_is}
 use Rattle.knowledge.proofs.event.lowered.Goals as goal
 
-pub overflow-shr-result : goal.overflow-shr-result
-overflow-shr-result c = omega (arith, one_shl c.args.i 32 (omega arith), pow_below c.args.i 6 (omega arith))
+pub overflow_shr-result : goal.overflow_shr-result
+overflow_shr-result c = omega (arith, one_shl c.args.i 32 (omega arith), pow_below c.args.i 6 (omega arith))
 
 pub returns : goal.returns
 returns c =

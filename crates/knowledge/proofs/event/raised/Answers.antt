@@ -4,8 +4,8 @@ use Rattle.std.proofs.lemmas.Nat.{one_shl, pow_below}
 use Rattle.epistemic.proofs.Features.{raised_is}
 use Rattle.knowledge.proofs.event.raised.Goals as goal
 
-pub overflow-shl-result-2 : goal.overflow-shl-result-2
-overflow-shl-result-2 c = omega (arith, one_shl c.args.i 32 (omega arith), pow_below c.args.i 6 (omega arith))
+pub overflow_shl-result-2 : goal.overflow_shl-result-2
+overflow_shl-result-2 c = omega (arith, one_shl c.args.i 32 (omega arith), pow_below c.args.i 6 (omega arith))
 
 pub returns : goal.returns
 returns c =

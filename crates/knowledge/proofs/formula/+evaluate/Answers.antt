@@ -9,8 +9,8 @@ use Rattle.knowledge.proofs.Readings.{read_first, rest_shorter, other_sign}
 use Rattle.knowledge.proofs.Judgements.{judged}
 use Rattle.knowledge.proofs.formula.+evaluate.Goals as goal
 
-pub returns-in-default : goal.returns-in-default
-returns-in-default t c =
+pub returns-in_default : goal.returns-in_default
+returns-in_default t c =
     let e = nil_from_length c.args.text.now (omega (arith, ltb-true)) in
     let mask = sym (xor_self c.args.cell) ∙ sym (ap (λ bs. truth 6 c.args.cell (read c.args.letters bs).formula) e) in
     let rest = e ∙ sym (ap (λ bs. (read c.args.letters bs).rest) e) in
@@ -77,12 +77,12 @@ returns-in-124 t c =
     let rest = c.evaluate-right-in-124.ensures.rest ∙ ap (λ r. r.rest) d ∙ sym (ap (λ r. r.rest) e) in
     record { mask = mask; rest = rest; whole = judged c.args.letters c.args.cell c.args.text.now _ _ mask rest }
 
-pub returns-in-default-sign : goal.returns-in-default-sign
-returns-in-default-sign t c =
+pub returns-in_default-sign : goal.returns-in_default-sign
+returns-in_default-sign t c =
     let n = c.args.letters in
     let b = get_or c.args.text.now 0 0 in
     let is = other_sign n b (λ e. omega arith) (λ e. omega arith) (λ e. omega arith) (λ e. omega arith) (λ e. omega arith) in
     let e = read_first n b (alone (atom n b)) c.args.text.now (omega (arith, ltb-false)) refl is in
-    let mask = c.atom-mask.ensures ∙ sym (ap (λ r. truth 6 c.args.cell r.formula) e) in
+    let mask = c.atom_mask.ensures ∙ sym (ap (λ r. truth 6 c.args.cell r.formula) e) in
     let rest = sym (ap (λ r. r.rest) e) in
     record { mask = mask; rest = rest; whole = judged c.args.letters c.args.cell c.args.text.now _ _ mask rest }

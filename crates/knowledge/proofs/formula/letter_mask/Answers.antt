@@ -21,5 +21,5 @@ returns-in-4 c = sym (ap (letter_mask 6) c.in-4.is ∙ letter_4)
 pub returns-in-5 : goal.returns-in-5
 returns-in-5 c = sym (ap (letter_mask 6) c.in-5.is ∙ letter_5)
 
-pub returns-in-default : goal.returns-in-default
-returns-in-default c = sym (letter_past 6 c.args.i (omega arith))
+pub returns-in_default : goal.returns-in_default
+returns-in_default c = sym (letter_past 6 c.args.i (omega arith))

@@ -28,7 +28,7 @@ loop-event-preserved c =
 
 pub returns : goal.returns
 returns c =
-    let none = sym c.in-default.ensures in
+    let none = sym c.in_default.ensures in
     record {
       covered = all_possible c.args.letters c.args.cell c.args.act.now c.loop-event.rest.now c.loop-event.covered c.loop-event.classes c.loop-event.invariant none;
       classes = all_classes c.args.letters c.args.cell c.args.act.now c.loop-event.rest.now c.loop-event.covered c.loop-event.classes c.loop-event.invariant none;

@@ -17,8 +17,8 @@ returns-in-None g c =
 pub loop-number-preserved : goal.loop-number-preserved
 loop-number-preserved g c =
     let m = g.B.Book.meaning c.args.book.now in
-    element_on (λ o. number_word (place_of m c.args.states.now o)) (m.outcomes c.args.s c.args.act) c.loop-number.number (text c.args.text.now) (text c.loop-number.text) c.loop-number.invariant c.in-Some.o c.outcome.result (text c.next-or-blank.new.self) c.outcome.ensures c.in-Some.is
-    (number_same (text c.loop-number.text) (text c.next-or-blank.new.self) c.find.result (place_of m c.args.states.now c.in-Some.o) c.next-or-blank.ensures c.find.ensures)
+    element_on (λ o. number_word (place_of m c.args.states.now o)) (m.outcomes c.args.s c.args.act) c.loop-number.number (text c.args.text.now) (text c.loop-number.text) c.loop-number.invariant c.in-Some.o c.outcome.result (text c.next_or_blank.new.self) c.outcome.ensures c.in-Some.is
+    (number_same (text c.loop-number.text) (text c.next_or_blank.new.self) c.find.result (place_of m c.args.states.now c.in-Some.o) c.next_or_blank.ensures c.find.ensures)
 
 pub returns : goal.returns
 returns g c =

@@ -11,4 +11,4 @@ returns-then-i-states g c =
 
 pub returns : goal.returns
 returns g c =
-    place_told (g.B.Book.meaning c.args.book.now) c.args.states.now c.args.rows.now c.args.i (text c.row-line.result) c.index-states-i.result _ c.if-i-states.false c.if-i-rows.false c.index-states-i.is c.row-line.ensures
+    place_told (g.B.Book.meaning c.args.book.now) c.args.states.now c.args.rows.now c.args.i (text c.row_line.result) c.index-states-i.result _ c.if-i-states.false c.if-i-rows.false c.index-states-i.is c.row_line.ensures

@@ -6,7 +6,7 @@ use Rattle.printout.proofs.plan.session_lines.Goals as goal
 pub loop-i-preserved : goal.loop-i-preserved
 loop-i-preserved g c =
     λ u h.
-    next_lines (g.B.Book.meaning c.args.book.now) (view c.args.session.now) u (vec_items c.loop-i.text) (vec_items c.add-line-in-loop-i.new.text) c.loop-i.i (c.in-ok-add-line-2.ensures u h)
+    next_lines (g.B.Book.meaning c.args.book.now) (view c.args.session.now) u (vec_items c.loop-i.text) (vec_items c.add_line-in-loop-i.new.text) c.loop-i.i (c.in_ok-add_line-2.ensures u h)
     (c.loop-i.invariant u h)
 
 pub returns : goal.returns

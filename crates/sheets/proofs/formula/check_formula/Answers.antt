@@ -16,8 +16,8 @@ pub returns-then-owed-eq0 : goal.returns-then-owed-eq0
 returns-then-owed-eq0 c =
     right c.args.letters c.args.text.now _ (sym (check_spare c.args.letters c.args.text.now c.loop-i.i c.loop-i.owed c.loop-i-test.true c.if-owed-eq0.true) ∙ c.loop-i.invariant.0 ∙ sym (checked_short c.args.letters c.args.text.now c.if-text-gt200.false))
 
-pub overflow-add-owed : goal.overflow-add-owed
-overflow-add-owed c = omega (arith, arity_most c.args.letters (get_or c.args.text.now c.loop-i.i 0) c.in-Some.a (sym c.in-Some.ensures))
+pub overflow_add-owed : goal.overflow_add-owed
+overflow_add-owed c = omega (arith, arity_most c.args.letters (get_or c.args.text.now c.loop-i.i 0) c.in-Some.a (sym c.in-Some.ensures))
 
 pub returns-in-None : goal.returns-in-None
 returns-in-None c =

@@ -4,9 +4,9 @@ use Rattle.sheets.specs.Reading.{pairs_check}
 use Rattle.sheets.proofs.Walking.{pair_bad, pair_good}
 use Rattle.sheets.proofs.sheet.check_pairs.Goals as goal
 
-pub returns-then-not-pair-fits : goal.returns-then-not-pair-fits
-returns-then-not-pair-fits c =
-    sym (pair_bad c.args.sheet.now (c.byte.result + 2) c.loop-number.number c.loop-number-test.true c.loop-number.end (sym c.if-not-pair-fits.ensures)) ∙ c.loop-number.invariant
+pub returns-then-not-pair_fits : goal.returns-then-not-pair_fits
+returns-then-not-pair_fits c =
+    sym (pair_bad c.args.sheet.now (c.byte.result + 2) c.loop-number.number c.loop-number-test.true c.loop-number.end (sym c.if-not-pair_fits.ensures)) ∙ c.loop-number.invariant
 
 pub loop-number-preserved : goal.loop-number-preserved
 loop-number-preserved c =

@@ -30,14 +30,14 @@ returns-then-count-eq0 g c =
       leaves = none_leaves m law k.state c.args.act k.choices k.next k.whole low none;
     }
 
-pub returns-in-default : goal.returns-in-default
-returns-in-default g c =
+pub returns-in_default : goal.returns-in_default
+returns-in_default g c =
     let m = g.B.Book.meaning c.args.book.now in
     let law = g.met.B.Book.lawful c.args.book.now in
     let k = c.args.self.now in
     let os = m.outcomes k.state c.args.act in
     let low : k.next < 64 = c.if-self-ge64.false in
-    let none : slice_get os (get_or k.choices k.next 0 % length os) ≡ None = ap (λ n. slice_get os (get_or k.choices k.next 0 % n)) (sym c.outcomes-count.ensures) ∙ sym c.outcome.ensures ∙ c.in-default.is in
+    let none : slice_get os (get_or k.choices k.next 0 % length os) ≡ None = ap (λ n. slice_get os (get_or k.choices k.next 0 % n)) (sym c.outcomes-count.ensures) ∙ sym c.outcome.ensures ∙ c.in_default.is in
     absurd (never_past m law k.state c.args.act k.choices k.next k.whole low (λ e. omega (arith, c.if-count-eq0.false)) none)
 
 pub returns : goal.returns

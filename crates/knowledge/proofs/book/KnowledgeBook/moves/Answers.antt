@@ -6,5 +6,5 @@ use Rattle.knowledge.proofs.book.KnowledgeBook.moves.Goals as goal
 
 pub returns : goal.returns
 returns c =
-    let answer = c.count-moves.ensures ∙ ap length (moves_asked c.args.self.now.sheet c.args.cell c.args.act c.in-Some.bytes.now c.in-Some.ensures c.letters.result c.args.valuation c.letters.ensures) in
-    record { answer = answer; some = some_move (content c.args.self.now) c.args.cell c.args.valuation c.args.act c.count-moves.result answer }
+    let answer = c.count_moves.ensures ∙ ap length (moves_asked c.args.self.now.sheet c.args.cell c.args.act c.in-Some.bytes.now c.in-Some.ensures c.letters.result c.args.valuation c.letters.ensures) in
+    record { answer = answer; some = some_move (content c.args.self.now) c.args.cell c.args.valuation c.args.act c.count_moves.result answer }

@@ -3,8 +3,8 @@ use Rattle.session.specs.Views.{view}
 use Rattle.session.proofs.Moving.{expand_none, expand_moves}
 use Rattle.session.proofs.lists.Session.expand_place.Goals as goal
 
-pub returns-in-default : goal.returns-in-default
-returns-in-default g c = record { lent = record { states = refl; rows = refl }; moves = expand_none (g.B.Book.meaning c.args.book.now) (view c.args.self.now) (sym c.state.ensures ∙ c.in-default.is) }
+pub returns-in_default : goal.returns-in_default
+returns-in_default g c = record { lent = record { states = refl; rows = refl }; moves = expand_none (g.B.Book.meaning c.args.book.now) (view c.args.self.now) (sym c.state.ensures ∙ c.in_default.is) }
 
 pub returns : goal.returns
 returns g c =

@@ -10,14 +10,14 @@ use Rattle.sheets.proofs.sheet.Sheet.read.Goals as goal
 right : (bs : List ℕ) (r : Result Sheet SheetFault) → answered r ≡ read_sheet bs → record { answer : answered r ≡ read_sheet bs; layout : AcceptsLayout bs (answered r) }
 right bs r e = record { answer = e; layout = accepts_layout bs (answered r) e }
 
-pub returns-in-err-check-header : goal.returns-in-err-check-header
-returns-in-err-check-header c = right c.args.bytes.now c.from-residual.result (search rules)
+pub returns-in_err-check_header : goal.returns-in_err-check_header
+returns-in_err-check_header c = right c.args.bytes.now c.from_residual.result (search rules)
 
-pub returns-in-err-check-pairs : goal.returns-in-err-check-pairs
-returns-in-err-check-pairs c = right c.args.bytes.now c.from-residual-in-err-check-pairs.result (search rules)
+pub returns-in_err-check_pairs : goal.returns-in_err-check_pairs
+returns-in_err-check_pairs c = right c.args.bytes.now c.from_residual-in_err-check_pairs.result (search rules)
 
-pub returns-in-err-check-sections : goal.returns-in-err-check-sections
-returns-in-err-check-sections c = right c.args.bytes.now c.from-residual-in-err-check-sections.result (search rules)
+pub returns-in_err-check_sections : goal.returns-in_err-check_sections
+returns-in_err-check_sections c = right c.args.bytes.now c.from_residual-in_err-check_sections.result (search rules)
 
 pub returns : goal.returns
 returns c = right c.args.bytes.now (Ok c.over.result) (search rules)

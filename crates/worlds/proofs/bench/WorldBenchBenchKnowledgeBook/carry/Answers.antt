@@ -9,12 +9,12 @@ use Rattle.worlds.specs.Worlds.{seen, chosen, led}
 use Rattle.worlds.proofs.Carrying.{happens, stuck, taken}
 use Rattle.worlds.proofs.bench.WorldBenchBenchKnowledgeBook.carry.Goals as goal
 
-pub returns-in-default : goal.returns-in-default
-returns-in-default c =
+pub returns-in_default : goal.returns-in_default
+returns-in_default c =
     let p = content c.args.book.now in
     let b = c.args.self.now in
     let a = c.args.act in
-    let is : None ≡ chosen p (seen b) a = c.in-default.ensures in
+    let is : None ≡ chosen p (seen b) a = c.in_default.ensures in
     let no_act = stuck p (seen b) a b.inside is in
     record {
       answer = sym (ap (λ t. cond t (Ok tt) (Err CarryStop.NotApplicable)) no_act);
@@ -25,13 +25,13 @@ returns-in-default c =
       refused = λ e _. refl;
     }
 
-pub invariant-of-self : goal.invariant-of-self
-invariant-of-self c =
+pub invariant_of-self : goal.invariant_of-self
+invariant_of-self c =
     let p = content c.args.book.now in
     let b = c.args.self.now in
     let a = c.args.act in
     let m = c.in-Some.taken in
-    let o : c.class-outcome-self.result ≡ class_outcome p b.cell a m.class = c.class-outcome-self.ensures in
+    let o : c.class_outcome-self.result ≡ class_outcome p b.cell a m.class = c.class_outcome-self.ensures in
     (subst (λ k. T (bit k m.valuation)) (sym o) (taken p (seen b) a m c.in-Some.ensures).lands.0, tt)
 
 pub returns : goal.returns
@@ -42,7 +42,7 @@ returns c =
     let m = c.in-Some.taken in
     let is : Some m ≡ chosen p (seen b) a = c.in-Some.ensures in
     let t = taken p (seen b) a m is in
-    let o : c.class-outcome-self.result ≡ class_outcome p b.cell a m.class = c.class-outcome-self.ensures in
+    let o : c.class_outcome-self.result ≡ class_outcome p b.cell a m.class = c.class_outcome-self.ensures in
     record {
       answer = sym (ap (λ t. cond t (Ok tt) (Err CarryStop.NotApplicable)) t.applies);
       stop = sym (ap (λ t. cond t 0 16) t.applies);
@@ -51,7 +51,7 @@ returns c =
       carried =
           record {
             number_is = sym (ap (λ t. cond t 0 16) t.applies);
-            leaves = (tt, (c.class-outcome-self.result, (subst (λ o. Memᴰ o (outcomes_at p b.cell a)) (sym o) t.lands.1, eqb_refl c.class-outcome-self.result)));
+            leaves = (tt, (c.class_outcome-self.result, (subst (λ o. Memᴰ o (outcomes_at p b.cell a)) (sym o) t.lands.1, eqb_refl c.class_outcome-self.result)));
           };
       refused = λ e h. absurd (let z : ◌≡◌ {A = ℕ} 0 1 = cc in omega arith);
     }
