@@ -1,13 +1,10 @@
--- The meaning of a knowledge book is lawful, and its answers are those of epistemic models. Assumes nothing.
+-- The answers of a knowledge book are those of epistemic models. Assumes nothing.
 use Rattle.std.proofs.Common.{◌≡◌, ℕ, ◌%◌, ◌^◌, ◌<◌, ◌≤◌, Bool, true, false, cond, ◌&&◌, eqb, ltb, List, [], map, length, get_or, replicate, filter, sym, refl, ap, ◌∙◌, subst, ap₂, mod-eq_of_lt, arith, eqb→eq}
 use mathlib.Core.List.Memᴰ
 use native.Mathlib.Nat.{min-le_right}
-use lib.Dec.{eqb_refl}
 use Rattle.std.specs.List.{range_with_len}
 use Rattle.std.proofs.lemmas.Nat.{mod_below, pow_pos}
-use Rattle.std.proofs.lemmas.Bool.{ltb-true, lt-ltb, le-ltb}
-use Rattle.planning.specs.Meaning.{Lawful}
-use Rattle.planning.proofs.Equality.{lawful_by_equality}
+use Rattle.std.proofs.lemmas.Bool.{ltb-true, lt-ltb}
 use Rattle.sheets.specs.Events.{Entry}
 use Rattle.sheets.specs.Formulas.{Formula}
 use Rattle.sheets.specs.Reading.{Parts}
@@ -20,11 +17,12 @@ use Rattle.epistemic.proofs.Lists.{map_from}
 use Rattle.epistemic.proofs.Letters.{truth_wider}
 use Rattle.epistemic.proofs.Truths.{goal_valid}
 use Rattle.epistemic.proofs.Sameness.{equal_if_bisimilar}
-use Rattle.epistemic.proofs.Outcomes.{outcomes_explained, outcome_proper, few, outside_none, outside_no_goal, empty_none, empty_goal}
+use Rattle.epistemic.proofs.Outcomes.{outcomes_explained, outcome_proper, outside_none, outside_no_goal, empty_none, empty_goal}
 use Rattle.knowledge.specs.Texts.{read}
 use Rattle.knowledge.specs.Acting.{event_of}
-use Rattle.knowledge.specs.Books.{letters, act_count, events_at, goal_formula, outcomes_at, class_masks, book_meaning}
+use Rattle.knowledge.specs.Books.{letters, act_count, events_at, goal_formula, outcomes_at, class_masks}
 use Rattle.knowledge.specs.Claims.{TextsRead, OutcomesRight, GoalRight, SameRight}
+use Rattle.knowledge.specs.Laws.{past_none}
 use Rattle.knowledge.proofs.Readings.{read_whole}
 
 -- events read from bytes are proper
@@ -54,12 +52,9 @@ module _ (p : Parts) where
           ap₂ (λ k g. record { class = k; pre = g; set = e.set % 2 ^ n; clear = e.clear % 2 ^ n }) class pre
           ∙ ap₂ (λ s k. record { class = e.class; pre = f; set = s; clear = k }) set clear
 
-  -- the outcomes of an act below the last, and of one past it
+  -- the outcomes of an act below the last
   below : (c a : ℕ) → a < act_count p → outcomes_at p c a ≡ outcomes n c (events_at p a)
   below c a h = ap (λ b. cond b (outcomes n c (events_at p a)) []) (lt-ltb a (act_count p) h)
-
-  past : (c a : ℕ) → act_count p ≤ a → outcomes_at p c a ≡ []
-  past c a h = ap (λ b. cond b (outcomes n c (events_at p a)) []) (le-ltb a (act_count p) h)
 
   either : (c a : ℕ) → outcomes n c (events_at p a) ≡ [] → outcomes_at p c a ≡ []
   either c a none = ap (λ os. cond (ltb a (act_count p)) os []) none ∙ same (ltb a (act_count p))
@@ -75,7 +70,7 @@ module _ (p : Parts) where
         cells = λ o i. member (ltb a (act_count p)) o i;
         empty = λ e. either c a (ap (λ x. outcomes n x (events_at p a)) e ∙ empty_none n (events_at p a));
         outside = λ h. either c a (outside_none n c (events_at p a) h);
-        past = past c a;
+        past = past_none p c a;
       }
     where
       member : (b : Bool) (o : ℕ) → o ∈ cond b (outcomes n c (events_at p a)) [] → ProperCell n o
@@ -115,13 +110,3 @@ module _ (p : Parts) where
       go true true false = refl
       go true false t = refl
       go false f t = refl
-
-  few_at : (c a : ℕ) → length (outcomes_at p c a) ≤ 8
-  few_at c a = go (ltb a (act_count p))
-    where
-      go : (b : Bool) → length (cond b (outcomes n c (events_at p a)) []) ≤ 8
-      go true = few n c (events_at p a)
-      go false = omega arith
-
-  pub lawful : Lawful (book_meaning p)
-  lawful = lawful_by_equality (book_meaning p) eqb_refl (λ s t h. eqb→eq s t h) (min-le_right (length p.acts) 16) past few_at

@@ -4,3 +4,4 @@ pub mod Acting
 pub mod Books
 pub mod Claims
 pub mod Moves
+pub mod Laws

@@ -7,6 +7,7 @@ ghost use Rattle.epistemic.specs.Bits.{bit};
 ghost use Rattle.knowledge.specs.Books.{askable, book_meaning, book_read, bytes_of, class_masks, content, letters, outcomes_at};
 ghost use Rattle.knowledge.specs.Claims.{GoalRight, OutcomesRight, SameRight, TextsRead};
 ghost use Rattle.knowledge.specs.Moves.{Landed, class_outcome, moves_at};
+ghost use Rattle.knowledge.specs.Laws.{book_lawful};
 
 use crate::cell::fits;
 use crate::formula::evaluate;
@@ -115,6 +116,8 @@ impl Book for KnowledgeBook<'_> {
     type State = u64;
 
     ghost meaning = { λ b. book_meaning (content b) };
+
+    ghost lawful = { λ b. book_lawful (content b) };
 
     fn start(&self) -> u64 {
         self.sheet.start()

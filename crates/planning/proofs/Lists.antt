@@ -1,5 +1,5 @@
 -- What the specs' tests on lists and on acts say, and the places of a list. Assumes nothing.
-use Rattle.std.proofs.Common.{◌≡◌, ℕ, zero, suc, ◌+◌, ◌<◌, ◌≤◌, Bool, true, false, cond, T, ◌⊎◌, List, [], ◌∷◌, length, take, Some, None, Option, sym, refl, ap, ◌∙◌, subst, inl, inr, true≢false, arith}
+use Rattle.std.proofs.Common.{◌≡◌, ℕ, zero, suc, ◌+◌, ◌<◌, ◌≤◌, Bool, true, false, cond, T, ◌⊎◌, List, [], ◌∷◌, length, take, length-take, Some, None, Option, sym, refl, ap, ◌∙◌, subst, inl, inr, true≢false, arith}
 use mathlib.Core.List.Memᴰ
 use mathlib.Core.List.{Memᴰ}
 use Rattle.std.specs.List.{slice_get}
@@ -137,3 +137,10 @@ nth_take zero xs i h = absurd (omega arith)
 nth_take (suc n) [] i h = refl
 nth_take (suc n) (x ∷ xs) zero h = refl
 nth_take (suc n) (x ∷ xs) (suc i) h = nth_take n xs i (omega arith)
+
+-- a front of n places is no longer than n, and no list is shorter than the empty one
+pub front_short : {S : Type 0} (n : ℕ) (xs : List S) → length (take n xs) ≤ n
+front_short n xs = let l = length-take n xs in omega arith
+
+pub none_below : (n : ℕ) → 0 ≤ n
+none_below n = omega arith

@@ -6,4 +6,3 @@ pub mod Finding
 pub mod Levels
 pub mod Judging
 pub mod Making
-pub mod Laws

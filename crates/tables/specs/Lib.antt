@@ -6,3 +6,4 @@ pub mod Tables
 pub mod Checking
 pub mod Looking
 pub mod Books
+pub mod Laws

@@ -3,6 +3,7 @@
 ghost use Rattle.std.specs.Prelude.{◌≡◌, is_ok, IfOk, Decides};
 ghost use Rattle.tables.specs.Books.{Faithful, held, table_meaning, told};
 ghost use Rattle.tables.specs.Tables.{WellMade, table_answer, table_of};
+ghost use Rattle.tables.specs.Laws.{table_lawful};
 
 use crate::checking::{MOST_ACTS, MOST_OUTCOMES, first_fault};
 use crate::fault::TableFault;
@@ -52,6 +53,8 @@ impl<'a> Book for MoveTable<'a> {
     type State = Spot;
 
     ghost meaning = { λ t. table_meaning (held t) };
+
+    ghost lawful = { λ t. table_lawful (held t) };
 
     fn start(&self) -> Spot {
         self.start

@@ -1,9 +1,10 @@
--- The laws of a book, for any table. Assumes nothing.
-use Rattle.std.proofs.Common.{◌≡◌, ℕ, ◌≤◌, min, ◌&&◌, T, eqb, ltb, [], length, take, refl, ap, ◌∙◌, arith}
-use Rattle.std.proofs.lemmas.List.{length-take}
+-- Every table is a lawful book. Assumes nothing.
+use Rattle.std.proofs.Common.{◌≡◌, ℕ, ◌≤◌, min, ◌&&◌, T, eqb, ltb, [], length, take, refl, ap, ◌∙◌}
+use native.Mathlib.Nat.{min-le_right}
 use Rattle.std.proofs.lemmas.Bool.{and_from, and_parts, and_right, cond_both, cond-false, eq-eqb, eqb-true, le-ltb}
 use Rattle.planning.specs.Meaning.{Lawful}
 use Rattle.planning.proofs.Tests.{holds, so}
+use Rattle.planning.proofs.Lists.{front_short, none_below}
 use Rattle.planning.proofs.Equality.{lawful_by_equality}
 use Rattle.tables.specs.Books.{outcomes, table_meaning}
 use Rattle.tables.specs.Looking.{block}
@@ -26,11 +27,11 @@ module _ (t : Table) where
   few : (s : Spot) (a : ℕ) → length (outcomes t s a) ≤ 8
   few s a =
       cond_both (within s && ltb a (min t.acts 16)) (take 8 (targets (block t.rows s a))) [] (λ ss. length ss ≤ 8)
-      (λ _. let l = length-take 8 (targets (block t.rows s a)) in omega arith)
-      (λ _. omega arith)
+      (λ _. front_short 8 (targets (block t.rows s a)))
+      (λ _. none_below 8)
 
-  pub lawful : Lawful (table_meaning t)
-  lawful =
-      lawful_by_equality (table_meaning t) same_itself same_from (omega arith)
+  pub table_lawful : Lawful (table_meaning t)
+  table_lawful =
+      lawful_by_equality (table_meaning t) same_itself same_from (min-le_right t.acts 16)
       (λ s a h. cond-false (within s && ltb a (min t.acts 16)) _ _ (and_right (within s) (ltb a (min t.acts 16)) (le-ltb a (min t.acts 16) h)))
       few
