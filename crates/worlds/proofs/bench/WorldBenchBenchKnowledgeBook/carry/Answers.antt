@@ -32,7 +32,7 @@ invariant_of-self c =
     let a = c.args.act in
     let m = c.in-Some.taken in
     let o : c.class_outcome-self.result ≡ class_outcome p b.cell a m.class = c.class_outcome-self.ensures in
-    (subst (λ k. T (bit k m.valuation)) (sym o) (taken p (seen b) a m c.in-Some.ensures).lands.0, tt)
+    record { inside = subst (λ k. T (bit k m.valuation)) (sym o) (taken p (seen b) a m c.in-Some.ensures).lands.0 }
 
 pub returns : goal.returns
 returns c =
