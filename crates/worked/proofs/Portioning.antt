@@ -9,7 +9,7 @@ use Rattle.session.proofs.Settling.{reach_final}
 use Rattle.session.proofs.Course.{course}
 use Rattle.session.proofs.Joining.{same_places}
 use Rattle.epistemic.specs.Bits.{mask, image}
-use Rattle.knowledge.proofs.Meanings.{lawful}
+use Rattle.knowledge.specs.Laws.{book_lawful}
 use Rattle.sheets.specs.Reading.{parts_at}
 use Rattle.worked.specs.Patches.{example}
 use Rattle.worked.specs.Worked.{patch, at_unit, Places, Portions}
@@ -40,7 +40,7 @@ lengths = (refl, (refl, refl))
 
 -- full from the unit on in which there is no place for a state
 full : (n f u : ℕ) → n < length (found patch f) → ((k : ℕ) → k < f → length (found patch k) ≤ n) → f ≤ u → progress patch n u ≡ at_unit (Full f) f
-full n f u more enough h = ((course patch (lawful (parts_at example))).full n f u more enough h).stands
+full n f u more enough h = ((course patch (book_lawful (parts_at example))).full n f u more enough h).stands
 
 full_at_three : (u : ℕ) → 2 ≤ u → progress patch 3 u ≡ at_unit (Full 2) 2
 full_at_three u h = full 3 2 u (omega (arith, lengths)) enough h
