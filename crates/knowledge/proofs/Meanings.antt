@@ -1,5 +1,5 @@
 -- The answers of a knowledge book are those of epistemic models. Assumes nothing.
-use Rattle.std.proofs.Common.{◌≡◌, ℕ, ◌%◌, ◌^◌, ◌<◌, ◌≤◌, Bool, true, false, cond, ◌&&◌, eqb, ltb, List, [], map, length, get_or, replicate, filter, sym, refl, ap, ◌∙◌, subst, ap₂, mod-eq_of_lt, arith, eqb→eq}
+use Rattle.std.proofs.Common.{◌≡◌, ℕ, ◌%◌, ◌^◌, ◌<◌, Bool, true, false, cond, ◌&&◌, eqb, ltb, List, [], map, get_or, replicate, filter, sym, refl, ap, ◌∙◌, subst, ap₂, mod-eq_of_lt, arith, eqb→eq}
 use mathlib.Core.List.Memᴰ
 use native.Mathlib.Nat.{min-le_right}
 use Rattle.std.specs.List.{range_with_len}

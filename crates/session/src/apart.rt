@@ -9,7 +9,7 @@ use crate::plain::{Record, Row};
 impl<'a, S: Copy> Session<'a, S> {
     /// A session put together from its record and its two lists.
     pub fn resume(from: Record, states: &'a mut [S], rows: &'a mut [Row]) -> Self
-        ensures { view result ≡ record { states = states.entry.now; rows = rows.old; plain = from } }
+        ensures { view result ≡ record { states = states.old; rows = rows.old; plain = from } }
     {
         Session {
             states,
