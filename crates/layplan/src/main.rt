@@ -5,10 +5,10 @@
 #[cfg(test)]
 mod tests;
 
-use anyhow::anyhow;
 use printout::print_sheet;
 use std::alloc::Global;
 use std::io::{Read, Write};
+use std::process::ExitCode;
 
 // One byte more than the longest sheet: enough to know that a sheet is too long.
 const ENOUGH: u64 = 16_385;
@@ -22,10 +22,10 @@ fn run<R: Read + Drop, W: Write>(heap: Global, input: R, output: &mut W) -> anyh
     Ok(printout.accepted)
 }
 
-fn main(rt: HostRuntime) -> anyhow::Result<()> {
+fn main(rt: HostRuntime) -> anyhow::Result<ExitCode> {
     if run(rt.alloc(), rt.stdin(), &mut rt.stdout())? {
-        Ok(())
+        Ok(ExitCode::SUCCESS)
     } else {
-        Err(anyhow!("the sheet is refused"))
+        Ok(ExitCode::FAILURE)
     }
 }
