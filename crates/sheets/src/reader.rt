@@ -1,7 +1,7 @@
 //! The sections of a sheet, found by the pairs of its header.
 
 ghost use Rattle.std.specs.Prelude.{◌≡◌, ◌+◌, ◌<◌, true, take, drop, if◌then◌else◌, slice_index};
-ghost use Rattle.sheets.specs.Rules.{offset as offset_at, section_bytes, size as type_size, word as word_at};
+ghost use Rattle.sheets.specs.Rules.{offset as offset_at, section_bytes, size as size_at, word as word_at};
 ghost use Rattle.sheets.specs.Sections.{handed, has_section, named, part, section_of};
 
 /// A section of a sheet by name: the sheet's own bytes.
@@ -92,7 +92,7 @@ pub(crate) fn offset(sheet: &[u8], number: u16) -> u16
 
 // How many bytes the section of that number has.
 pub(crate) fn size(sheet: &[u8], number: u16) -> u16
-    ensures { result ≡ type_size sheet.now number }
+    ensures { result ≡ size_at sheet.now number }
 {
     word(sheet, 2 + 4 * number as u32 + 2)
 }

@@ -1,5 +1,5 @@
 -- Which tables are well made, and what is told of the others. Assumes nothing.
-use Rattle.std.specs.Prelude.{◌≡◌, ℕ, zero, suc, ◌<◌, ◌≤◌, Bool, cond, not, ◌&&◌, ◌||◌, leb, List, length, take, Some, None, Ok, Err, Option, Result, ◌==◌, nat_le, nat_lt}
+use Rattle.std.specs.Prelude.{◌≡◌, ℕ, zero, suc, ◌<◌, ◌≤◌, Bool, cond, not, ◌&&◌, ◌||◌, List, length, take, Some, None, Ok, Err, Option, Result, ◌==◌, nat_le, nat_lt}
 use Rattle.std.specs.List.{slice_get}
 use Rattle.planning.specs.Ranks.{every}
 use Rattle.tables.specs.Places.{back, passes}
@@ -52,7 +52,7 @@ pub record WellMade (t : Table) : Type 0 where
 
 -- there are 64 wanted levels, each at most 64
 abbrev pub levels_fit : List ℕ → Bool
-levels_fit ws = length ws == 64 && every (λ w. leb w 64) ws
+levels_fit ws = length ws == 64 && every (λ w. nat_le w 64) ws
 
 -- row r is wrong after the row p just before it, if there is one, and all rows ps before it: by a field, by its order,
 -- or as the ninth of its spot and act
