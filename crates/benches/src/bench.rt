@@ -1,13 +1,14 @@
 //! Making a script bench, and carrying acts out on it.
 
-ghost use Rattle.std.specs.Prelude.{◌≡◌, length, take, Err};
+ghost use Rattle.std.specs.Prelude.{◌≡◌, take, Err};
 ghost use Rattle.session.specs.Stops.{carry_number};
 ghost use Rattle.session.specs.Walks.{Carried};
 ghost use Rattle.session.specs.declared.stops.CarryStop.{CarryStop};
 ghost use Rattle.benches.specs.Scripts.{carry_answer, carry_leaves, post, script};
 
-use crate::script::ScriptBench;
-use planning::Book;
+use crate::script::{CHOICES, ScriptBench};
+use arrayvec::ArrayVec;
+use planning::{Book, Outcomes};
 use session::{Bench, CarryStop};
 
 impl<S: Copy> ScriptBench<S> {
@@ -15,31 +16,15 @@ impl<S: Copy> ScriptBench<S> {
     pub fn new<B: Book<State = S>>(book: &B, choices: &[u8]) -> Self
         ensures { script result ≡ record { state = (B.meaning book.now).start; bytes = take 64 choices.now } }
     {
-        let count = choices.len().min(64);
-        let next = 64 - count;
-        let mut held = [0; 64];
-        for i in 0..count {
-            held[next + i] = choices[i];
-        }
+        let count = choices.len().min(CHOICES);
+        let mut held = ArrayVec::new();
+        // So many fit.
+        let _ = held.try_extend_from_slice(&choices[..count]);
         ScriptBench {
             state: book.start(),
             choices: held,
-            next,
         }
     }
-}
-
-// The number of outcomes of an act.
-fn outcomes<B: Book>(book: &B, s: B::State, act: u8) -> u8
-    ensures { result ≡ length ((B.meaning book.now).outcomes s act) }
-{
-    for number in 0..8 {
-        match book.outcome(s, act, number) {
-            Some(_) => {}
-            None => return number,
-        }
-    }
-    8
 }
 
 /// The bench stands in its state and is ready while bytes remain. An act that it carries out uses the next byte, which,
@@ -55,7 +40,7 @@ impl<S: Copy, B: Book<State = S>> Bench<B> for ScriptBench<S> {
     }
 
     fn ready(&self, _book: &B) -> bool {
-        self.next < 64
+        !self.choices.is_empty()
     }
 
     fn carry(&mut self, book: &B, act: u8) -> Result<(), CarryStop>
@@ -64,19 +49,16 @@ impl<S: Copy, B: Book<State = S>> Bench<B> for ScriptBench<S> {
         ensures answer { result ≡ carry_answer (B.meaning book.now) (script self.old) act }
         ensures leaves { script self.new ≡ carry_leaves (B.meaning book.now) (script self.old) act }
     {
-        if self.next >= 64 {
-            return Err(CarryStop::NotReady);
-        }
-        let count = outcomes(book, self.state, act);
+        let choice = *self.choices.first().ok_or(CarryStop::NotReady)?;
+        let count = Outcomes::new(book, self.state, act).count();
         if count == 0 {
             return Err(CarryStop::NotApplicable);
         }
-        let number = self.choices[self.next] % count;
-        let Some(state) = book.outcome(self.state, act, number) else {
-            return Err(CarryStop::NotApplicable);
-        };
-        self.state = state;
-        self.next += 1;
+        let number = usize::from(choice) % count;
+        self.state = Outcomes::new(book, self.state, act)
+            .nth(number)
+            .ok_or(CarryStop::NotApplicable)?;
+        self.choices.remove(0);
         Ok(())
     }
 }

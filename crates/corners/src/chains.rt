@@ -1,49 +1,20 @@
-//! Tables whose one act leads from each spot to the next.
+//! Tables whose one act leads from each spot to the next, and tables of many rows.
 
-use crate::spots::{NEVER, ORIGIN, table};
+use crate::spots::table;
 use crate::words::{Asked, Told};
 use session::{BLANK, Session};
 use std::alloc::{AllocError, Global};
-use tables::{MoveTable, Spot, TableRow};
+use tables::TableRow;
+use worked::{NEVER, ORIGIN, chain, spot, wanted_from};
 
-// The spot of that number, counted level by level through zone after zone.
-fn spot(number: usize) -> Spot {
-    Spot {
-        zone: (number / 64 % 64) as u8,
-        level: (number % 64) as u8,
-    }
-}
-
-// So many moves, each from a spot to the next.
-fn chain(heap: Global, moves: usize) -> Result<Vec<TableRow>, AllocError> {
-    let mut rows = Vec::new(heap);
-    for i in 0..moves {
-        rows.push(TableRow {
-            from: spot(i),
-            act: 0,
-            to: spot(i + 1),
-        })?;
-    }
-    Ok(rows)
-}
-
-// Only the spot at the end of the chain is wanted.
-fn wanted_at(end: Spot) -> [u8; 64] {
-    let mut wanted = NEVER;
-    if end.zone < 64 {
-        wanted[end.zone as usize] = end.level;
-    }
-    wanted
-}
-
-// Plans a chain of so many moves, and asks of a spot on the way.
-fn tell_chain(rt: &HostRuntime, moves: usize, asked: usize) -> anyhow::Result<()> {
+// Plans a chain of so many moves to its end, and asks of a spot on the way.
+fn tell_chain(rt: &(impl Print + AllocGlobal), moves: usize, asked: usize) -> anyhow::Result<()> {
     let rows = chain(rt.alloc(), moves)?;
-    let wanted = wanted_at(spot(moves));
-    let book = table(&wanted, rows.as_slice())?;
+    let wanted = wanted_from(spot(moves));
+    let book = table(&wanted, &rows)?;
     let mut states = vec![in rt.alloc(); ORIGIN; 4096]?;
     let mut list = vec![in rt.alloc(); BLANK; 4096]?;
-    let mut session = Session::new(&book, states.as_mut_slice(), list.as_mut_slice());
+    let mut session = Session::new(&book, &mut states, &mut list);
     let told = Told(session.work(&book, u32::MAX));
     let row = Asked(session.ask(&book, spot(asked)));
     println!(rt; "A chain of {moves} moves: {told}; spot {asked} of it: {row}.")?;
@@ -52,33 +23,27 @@ fn tell_chain(rt: &HostRuntime, moves: usize, asked: usize) -> anyhow::Result<()
 
 // So many rows, eight for each spot in turn.
 fn eights(heap: Global, count: usize) -> Result<Vec<TableRow>, AllocError> {
-    let mut rows = Vec::new(heap);
-    for i in 0..count {
-        rows.push(TableRow {
-            from: spot(i / 8),
+    (0..count)
+        .map(|number| TableRow {
+            from: spot(number / 8),
             act: 0,
             to: ORIGIN,
-        })?;
-    }
-    Ok(rows)
+        })
+        .collect(heap)
 }
 
 // What becomes of a table of so many rows.
-fn tell_size(rt: &HostRuntime, count: usize) -> anyhow::Result<()> {
+fn tell_size(rt: &(impl Print + AllocGlobal), count: usize) -> anyhow::Result<()> {
     let rows = eights(rt.alloc(), count)?;
-    match MoveTable::new(1, ORIGIN, &NEVER, rows.as_slice()) {
+    match table(&NEVER, &rows) {
         Ok(_) => println!(rt; "A table with {count} rows is accepted.")?,
-        Err(fault) => {
-            let number = fault.number();
-            let place = fault.place();
-            println!(rt; "A table with {count} rows: stop {number} at place {place}.")?;
-        }
+        Err(fault) => println!(rt; "A table with {count} rows: {fault}.")?,
     }
     Ok(())
 }
 
 // A chain with ranks in the hundreds, one through all spots, and tables of as many rows as there may be, and one more.
-pub(crate) fn report(rt: &HostRuntime) -> anyhow::Result<()> {
+pub(crate) fn report(rt: &(impl Print + AllocGlobal)) -> anyhow::Result<()> {
     tell_chain(rt, 299, 100)?;
     tell_chain(rt, 4095, 4095)?;
     tell_size(rt, 32_768)?;

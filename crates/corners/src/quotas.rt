@@ -1,7 +1,8 @@
 //! The example searched in portions, and in few places.
 
-use crate::example::book_of;
 use crate::words::Told;
+use knowledge::KnowledgeBook;
+use planning::Book;
 use session::{BLANK, Session};
 use worked::patch;
 
@@ -9,16 +10,14 @@ use worked::patch;
 const MANY: usize = 8;
 
 // Works for one quota after another, and tells where the search stands after each.
-fn portions(rt: &HostRuntime, places: usize, quotas: &[u32]) -> anyhow::Result<()> {
-    let book = book_of(patch())?;
-    let mut states = [0u64; MANY];
-    let mut rows = [BLANK; MANY];
-    let places = places.min(MANY);
-    let mut session = Session::new(&book, &mut states[0..places], &mut rows);
+fn portions(rt: &(impl Print + AllocGlobal), places: usize, quotas: &[u32]) -> anyhow::Result<()> {
+    let book = KnowledgeBook::read(patch())?;
+    let mut states = vec![in rt.alloc(); book.start(); places]?;
+    let mut rows = vec![in rt.alloc(); BLANK; places]?;
+    let mut session = Session::new(&book, &mut states, &mut rows);
     let told = Told(session.progress());
     println!(rt; "The example, N = {places}: {told} when fresh.")?;
-    for i in 0..quotas.len() {
-        let quota = quotas[i];
+    for &quota in quotas {
         let told = Told(session.work(&book, quota));
         println!(rt; "  After a quota of {quota}: {told}.")?;
     }
@@ -26,7 +25,7 @@ fn portions(rt: &HostRuntime, places: usize, quotas: &[u32]) -> anyhow::Result<(
 }
 
 // Quotas that part the last unit from the others, and places that are just enough, too few, and none.
-pub(crate) fn report(rt: &HostRuntime) -> anyhow::Result<()> {
+pub(crate) fn report(rt: &(impl Print + AllocGlobal)) -> anyhow::Result<()> {
     portions(rt, MANY, &[15, 0, 1])?;
     portions(rt, MANY, &[u32::MAX, u32::MAX])?;
     portions(rt, 4, &[100])?;

@@ -1,8 +1,8 @@
 //! Answers in words.
 
+use itertools::Itertools;
 use session::{AskStop, Progress, Row, Standing};
 use std::fmt;
-use std::io::Write;
 
 // Where a search stands, and the units that it has spent.
 #[derive(Clone, Copy)]
@@ -32,6 +32,7 @@ impl fmt::Display for Asked {
                 (Some(rank), None) => write!(f, "rank {rank}"),
                 _ => write!(f, "no rank"),
             },
+            // The number alone, without the stop's words, since it stands in the middle of a sentence.
             Err(AskStop::Working) => write!(f, "stop 9"),
             Err(AskStop::Full) => write!(f, "stop 10"),
             Err(AskStop::Unlisted) => write!(f, "stop 11"),
@@ -40,18 +41,12 @@ impl fmt::Display for Asked {
 }
 
 // Prints a name and the lines of a text in one line, with strokes between them.
-pub(crate) fn tell_text(rt: &HostRuntime, name: &str, text: &[u8]) -> anyhow::Result<()> {
-    let mut line = Vec::new(rt.alloc());
-    line.extend_from_slice(name.as_bytes())?;
-    line.extend_from_slice(b": ")?;
-    for i in 0..text.len() {
-        if text[i] != b'\n' {
-            line.push(text[i])?;
-        } else if i + 1 < text.len() {
-            line.extend_from_slice(b" / ")?;
-        }
-    }
-    line.push(b'\n')?;
-    rt.stdout().write_all(line.as_slice())?;
+pub(crate) fn tell_text(
+    rt: &(impl Print + AllocGlobal),
+    name: &str,
+    text: &[u8],
+) -> anyhow::Result<()> {
+    let lines = str::from_utf8(text)?.lines().join(rt.alloc(), " / ")?;
+    println!(rt; "{name}: {lines}")?;
     Ok(())
 }

@@ -1,22 +1,28 @@
 -- The parts of a book's sheet, as the program asks for them. Assumes nothing.
-use Rattle.std.proofs.Common.{◌≡◌, ℕ, ◌<◌, min, Bool, true, false, cond, ◌&&◌, eqb, ltb, List, [], map, replicate, Some, None, Option, sym, refl, ap, ◌∙◌, arith}
+use Rattle.std.proofs.Common.{◌≡◌, ℕ, ◌<◌, min, Bool, true, false, cond, ◌&&◌, ltb, List, [], map, Some, None, Option, unwrap_or, sym, refl, ap, ◌∙◌, ap₂, arith}
+use denote.Ref.{Bor}
 use native.Mathlib.Nat.{min-le_left}
-use Rattle.std.specs.List.{range_with_len}
+use Rattle.std.specs.Bool.{then_some}
+use Rattle.std.specs.Option.{MatchOption, option_map}
 use Rattle.std.proofs.lemmas.List.FromFn.{length-map-range_with_len, get_or-map-range_with_len}
-use Rattle.std.proofs.lemmas.Bool.{and_parts, ltb-true, eq-eqb, ne_eqb}
+use Rattle.std.proofs.lemmas.Bool.{and_parts, ltb-true}
 use Rattle.sheets.specs.Events.{events_of}
 use Rattle.sheets.specs.Reading.{act_bytes, parts}
 use Rattle.sheets.specs.declared.sheet.Sheet.{Sheet}
-use Rattle.epistemic.specs.Acts.{possible, outcome}
+use Rattle.epistemic.specs.Acts.{Event}
 use Rattle.epistemic.specs.Cells.{fit}
 use Rattle.knowledge.specs.Acting.{event_of, act_of}
-use Rattle.knowledge.specs.Books.{letters, act_count, events_at, askable, class_masks}
-use Rattle.knowledge.specs.Moves.{moves_of, moves_at}
+use Rattle.knowledge.specs.Books.{letters, act_count, events_at, askable, bytes_of}
+use Rattle.knowledge.specs.declared.cell.Cell.{Cell}
 
 -- what an answer that may be missing says of its test
 some_when : {X : Type 0} (t : Bool) (x y : X) → Some y ≡ cond {A = Option X} t (Some x) None → (t ≡ true) × (y ≡ x)
 some_when true x y e = (refl, (let z : y ≡ x = cc in z))
 some_when false x y e = absurd (let z : ◌≡◌ {A = ℕ} 0 1 = cc in omega arith)
+
+none_when : {X : Type 0} (t : Bool) (x : X) → None ≡ cond {A = Option X} t (Some x) None → t ≡ false
+none_when true x e = absurd (let z : ◌≡◌ {A = ℕ} 0 1 = cc in omega arith)
+none_when false x e = refl
 
 module _ (s : Sheet) where
   -- the book has the sheet's acts, sixteen at most
@@ -29,43 +35,33 @@ module _ (s : Sheet) where
       let below : a < s.acts = omega (arith, count_is, min-le_left s.acts 16) in
       ap (map (event_of (letters (parts s)))) (sym (get_or-map-range_with_len (λ i. events_of (act_bytes s i)) 0 s.acts a a [] below (omega arith)))
 
-  -- what is known of the bytes of an act that may be asked for
-  module _ (c a : ℕ) (bs : List ℕ) (given : Some bs ≡ cond {A = Option (List ℕ)} (askable (parts s) c a) (Some (act_bytes s a)) None) where
+  module _ (c a : ℕ) where
     abbrev n : ℕ
     n = letters (parts s)
 
-    asked : (askable (parts s) c a ≡ true) × (bs ≡ act_bytes s a)
-    asked = some_when (askable (parts s) c a) (act_bytes s a) bs given
+    asked_events : (bs : List ℕ) → Some bs ≡ cond {A = Option (List ℕ)} (askable (parts s) c a) (Some (act_bytes s a)) None → (askable (parts s) c a ≡ true) × (act_of n bs ≡ events_at (parts s) a)
+    asked_events bs given =
+        let asked = some_when (askable (parts s) c a) (act_bytes s a) bs given in
+        let tests = and_parts (ltb a (act_count (parts s))) (fit n c) asked.0 in
+        (asked.0, ap (act_of n) asked.1 ∙ events_are a (ltb-true a (act_count (parts s)) tests.0))
 
-    tests : (ltb a (act_count (parts s)) ≡ true) × (fit n c ≡ true)
-    tests = and_parts (ltb a (act_count (parts s))) (fit n c) asked.0
+    not_asked : None ≡ cond {A = Option (List ℕ)} (askable (parts s) c a) (Some (act_bytes s a)) None → askable (parts s) c a ≡ false
+    not_asked e = none_when (askable (parts s) c a) (act_bytes s a) e
 
-    asked_events : act_of n bs ≡ events_at (parts s) a
-    asked_events = ap (act_of n) asked.1 ∙ events_are a (ltb-true a (act_count (parts s)) tests.0)
+    -- what is answered from the cell and the bytes of an act, where they may be asked for, is answered from the sheet's
+    -- events
+    pub answered : {X Y : Type 0} (of : ℕ → ℕ → List Event → X) (none : X) (read : X → Y) (o : Option (Cell × Bor (List ℕ))) → bytes_of (option_map (λ x. x.1) o) ≡ cond (askable (parts s) c a) (Some (act_bytes s a)) None → ((x : Cell × Bor (List ℕ)) → o ≡ Some x → (x.0.letters ≡ n) × (x.0.mask ≡ c)) → (r : Y) (tells : Cell × Bor (List ℕ) → Type 0) → MatchOption o (r ≡ read none) tells → ((x : Cell × Bor (List ℕ)) → tells x → r ≡ read (of x.0.letters x.0.mask (act_of x.0.letters x.1.now))) → r ≡ read (cond (askable (parts s) c a) (of n c (events_at (parts s) a)) none)
+    answered of none read (Some x) bytes cell r tells told tell =
+        let asked = asked_events x.1.now bytes in
+        tell x told
+        ∙ ap₂ (λ k m. read (of k m (act_of k x.1.now))) (cell x refl).0 (cell x refl).1
+        ∙ ap (λ es. read (of n c es)) asked.1
+        ∙ ap (λ b. read (cond b (of n c (events_at (parts s) a)) none)) (sym asked.0)
+    answered of none read None bytes cell r tells told tell =
+        told ∙ ap (λ b. read (cond b (of n c (events_at (parts s) a)) none)) (sym (not_asked bytes))
 
-    -- the masks of the classes, where the act is applicable and where it is not
-    masks_when : (b : Bool) → eqb (possible n c (act_of n bs)) c ≡ b → class_masks (parts s) c a ≡ cond b (map (λ k. outcome n c k (act_of n bs)) (range_with_len 0 8)) (replicate 8 0)
-    masks_when b e =
-        ap (λ x. cond (x && eqb (possible n c (events_at (parts s) a)) c) (map (λ k. outcome n c k (events_at (parts s) a)) (range_with_len 0 8)) (replicate 8 0)) asked.0
-        ∙ ap (λ es. cond (eqb (possible n c es) c) (map (λ k. outcome n c k es) (range_with_len 0 8)) (replicate 8 0)) (sym asked_events)
-        ∙ ap (λ x. cond x (map (λ k. outcome n c k (act_of n bs)) (range_with_len 0 8)) (replicate 8 0)) e
-
-    module _ (k some : ℕ) (classes : List ℕ) (is : k ≡ n) (first : some ≡ possible k c (act_of k bs)) (each : classes ≡ map (λ j. outcome k c j (act_of k bs)) (range_with_len 0 8)) where
-      some_is : some ≡ possible n c (act_of n bs)
-      some_is = first ∙ ap (λ m. possible m c (act_of m bs)) is
-
-      pub masks_all : some ≡ c → classes ≡ class_masks (parts s) c a
-      masks_all e =
-          each
-          ∙ ap (λ m. map (λ j. outcome m c j (act_of m bs)) (range_with_len 0 8)) is
-          ∙ sym (masks_when true (eq-eqb (possible n c (act_of n bs)) c (sym some_is ∙ e)))
-
-      pub masks_none : (some ≡ c → ⊥) → replicate 8 0 ≡ class_masks (parts s) c a
-      masks_none e = sym (masks_when false (ne_eqb (possible n c (act_of n bs)) c (λ d. e (some_is ∙ d))))
-
-    -- the moves from a valuation
-    pub moves_asked : (k v : ℕ) → k ≡ n → moves_of k c v (act_of k bs) ≡ moves_at (parts s) c v a
-    moves_asked k v is =
-        ap (λ m. moves_of m c v (act_of m bs)) is
-        ∙ ap (moves_of n c v) asked_events
-        ∙ sym (ap (λ x. cond x (moves_of n c v (events_at (parts s) a)) []) asked.0)
+-- the masks of the classes, where an act may be asked for and has outcomes, and where not
+pub masks : (b t : Bool) (all none : List ℕ) → unwrap_or (cond b (then_some t all) None) none ≡ cond (b && t) all none
+masks true true all none = refl
+masks true false all none = refl
+masks false t all none = refl

@@ -1,7 +1,7 @@
+pub mod Letters
 pub mod Readings
 pub mod Judgements
 pub mod Updating
-pub mod Numbered
 pub mod Meanings
 pub mod Contents
 pub mod Moving

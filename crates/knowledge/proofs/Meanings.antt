@@ -1,10 +1,11 @@
 -- The answers of a knowledge book are those of epistemic models. Assumes nothing.
-use Rattle.std.proofs.Common.{◌≡◌, ℕ, ◌%◌, ◌^◌, ◌<◌, Bool, true, false, cond, ◌&&◌, eqb, ltb, List, [], map, get_or, replicate, filter, sym, refl, ap, ◌∙◌, subst, ap₂, mod-eq_of_lt, arith, eqb→eq}
+use Rattle.std.proofs.Common.{◌≡◌, ℕ, ◌%◌, ◌^◌, ◌<◌, Bool, true, false, cond, ◌&&◌, eqb, ltb, List, [], Some, None, Option, is_some, map, get_or, replicate, filter, sym, refl, ap, ◌∙◌, subst, ap₂, mod-eq_of_lt, arith, eqb→eq}
 use mathlib.Core.List.Memᴰ
 use native.Mathlib.Nat.{min-le_right}
 use Rattle.std.specs.List.{range_with_len}
+use Rattle.std.specs.Option.{MatchOption}
 use Rattle.std.proofs.lemmas.Nat.{mod_below, pow_pos}
-use Rattle.std.proofs.lemmas.Bool.{ltb-true, lt-ltb}
+use Rattle.std.proofs.lemmas.Bool.{lt-ltb}
 use Rattle.sheets.specs.Events.{Entry}
 use Rattle.sheets.specs.Formulas.{Formula}
 use Rattle.sheets.specs.Reading.{Parts}
@@ -14,7 +15,6 @@ use Rattle.epistemic.specs.Acts.{Proper, nonempty, possible, outcome, outcomes}
 use Rattle.epistemic.specs.Claims.{OutcomesExplained}
 use Rattle.epistemic.proofs.Tests.{eqb_from}
 use Rattle.epistemic.proofs.Lists.{map_from}
-use Rattle.epistemic.proofs.Letters.{truth_wider}
 use Rattle.epistemic.proofs.Truths.{goal_valid}
 use Rattle.epistemic.proofs.Sameness.{equal_if_bisimilar}
 use Rattle.epistemic.proofs.Outcomes.{outcomes_explained, outcome_proper, outside_none, outside_no_goal, empty_none, empty_goal}
@@ -23,6 +23,7 @@ use Rattle.knowledge.specs.Acting.{event_of}
 use Rattle.knowledge.specs.Books.{letters, act_count, events_at, goal_formula, outcomes_at, class_masks}
 use Rattle.knowledge.specs.Claims.{TextsRead, OutcomesRight, GoalRight, SameRight}
 use Rattle.knowledge.specs.Laws.{past_none}
+use Rattle.knowledge.specs.declared.cell.Cell.{Cell}
 use Rattle.knowledge.proofs.Readings.{read_whole}
 
 -- events read from bytes are proper
@@ -85,11 +86,13 @@ module _ (p : Parts) where
         outside = outside_no_goal n c (goal_formula p);
       }
 
-  -- in a cell the goal formula is compared by its mask over six features
-  pub goal_masked : (c m : ℕ) → fit n c ≡ true → m ≡ truth 6 c (goal_formula p) → eqb m c ≡ goal n (goal_formula p) c
-  goal_masked c m fits e =
-      let mask = e ∙ truth_wider n 6 c (min-le_right p.features 6) (ltb-true c (2 ^ (2 ^ n)) fits) (goal_formula p) in
-      ap (λ x. eqb x c) mask ∙ ap (λ b. b && eqb (truth n c (goal_formula p)) c) (sym fits)
+  -- the goal formula is compared by its mask in a cell, and nothing else is a goal
+  pub goal_masked : (c : ℕ) (o : Option Cell) → is_some o ≡ fit n c → ((x : Cell) → o ≡ Some x → (x.letters ≡ n) × (x.mask ≡ c)) → (r : Bool) (tells : Cell → Type 0) → MatchOption o (r ≡ false) tells → ((x : Cell) → tells x → r ≡ eqb (truth x.letters x.mask (read x.letters p.goal).formula) x.mask) → r ≡ goal n (goal_formula p) c
+  goal_masked c (Some x) some cell r tells told tell =
+      tell x told
+      ∙ ap₂ (λ k m. eqb (truth k m (read k p.goal).formula) m) (cell x refl).0 (cell x refl).1
+      ∙ ap (λ b. b && eqb (truth n c (goal_formula p)) c) some
+  goal_masked c None some cell r tells told tell = told ∙ ap (λ b. b && eqb (truth n c (goal_formula p)) c) some
 
   pub same_right : (c d : ℕ) → SameRight p c d (eqb c d)
   same_right c d =

@@ -1,5 +1,5 @@
 -- How a formula is read sign by sign, and that the text of a formula is read as that formula. Assumes nothing.
-use Rattle.std.proofs.Common.{◌≡◌, ℕ, zero, suc, ◌+◌, ◌-◌, ◌<◌, ◌≤◌, false, cond, ◌&&◌, eqb, ltb, leb, List, [], ◌∷◌, ◌++◌, length, get_or, take, drop, sym, refl, ap, ◌∙◌, append_assoc, append-nil, arith}
+use Rattle.std.proofs.Common.{◌≡◌, ℕ, zero, suc, ◌+◌, ◌-◌, ◌<◌, ◌≤◌, cond, ◌&&◌, eqb, ltb, leb, List, [], ◌∷◌, ◌++◌, length, get_or, take, drop, sym, refl, ap, ◌∙◌, append_assoc, append-nil, arith, length-drop, length-take}
 use Rattle.std.proofs.lemmas.Slice.{first_rest}
 use Rattle.std.proofs.lemmas.Bool.{ne_eqb, le-leb, lt-ltb, cond-true, cond-false, and_from}
 use Rattle.sheets.specs.Formulas.{Formula, top, letter, neg, and, or, K, M, Spells, spells_top, spells_letter, spells_neg, spells_and, spells_or, spells_K, spells_M}
@@ -18,7 +18,7 @@ module _ (n : ℕ) where
   within_shorter (suc k) (b ∷ bs) =
       omega (arith, governed_shorter (read_within n k) (within_shorter k) bs (sign n b))
 
-  pub rest_shorter : (bs : List ℕ) → length (read n bs).rest ≤ length bs
+  rest_shorter : (bs : List ℕ) → length (read n bs).rest ≤ length bs
   rest_shorter bs = within_shorter (length bs) bs
 
   -- as many steps as there are bytes are enough
@@ -60,13 +60,6 @@ module _ (n : ℕ) where
       ∙ cond-false (eqb b 38) (two and) after-or (ne_eqb b 38 s)
       ∙ cond-false (eqb b 124) (two or) (alone (atom n b)) (ne_eqb b 124 t)
 
-  -- a byte that is no sign and no letter among the first n
-  pub atom_never : (b : ℕ) → (b ≡ 84 → ⊥) → (leb 97 b && ltb (b - 97) n) ≡ false → atom n b ≡ never
-  atom_never b p e =
-      let is_letter = leb 97 b && ltb (b - 97) n in
-      cond-false (eqb b 84) top (cond is_letter (letter (b - 97)) never) (ne_eqb b 84 p)
-      ∙ cond-false is_letter (letter (b - 97)) never e
-
   letter_atom : (i : ℕ) → i < n → atom n (97 + i) ≡ letter i
   letter_atom i h =
       let same : (97 + i) - 97 ≡ i = omega arith in
@@ -101,6 +94,11 @@ pub read_first : (n b : ℕ) (s : Sign) (bs : List ℕ) → 1 ≤ length bs → 
 read_first n b s bs h is e =
     let rest = take (length bs - 1) (drop 1 bs) in
     ap (read n) (first_rest bs 0 h ∙ ap (λ x. x ∷ rest) is) ∙ read_sign n b rest s e
+
+-- what is left after the first of two formulas is shorter than the text that their sign begins
+pub left_shorter : (n : ℕ) (bs rest : List ℕ) → 1 ≤ length bs → rest ≡ (read n (take (length bs - 1) (drop 1 bs))).rest → length rest < length bs
+left_shorter n bs rest some is =
+    omega (arith, ap length is, rest_shorter n (take (length bs - 1) (drop 1 bs)), length-take (length bs - 1) (drop 1 bs), length-drop 1 bs, some)
 
 -- the whole text of a formula is read as that formula, and nothing is left
 pub read_whole : (n : ℕ) → n ≤ 6 → {f : Formula} {bs : List ℕ} → Spells n f bs → read n bs ≡ record { formula = f; rest = [] }

@@ -1,56 +1,52 @@
 //! What an event makes of valuations, for a whole set of them at once.
 
-ghost use Rattle.std.specs.Prelude.{◌≡◌, ◌^◌, ◌<◌, ◌≤◌, true, false};
+ghost use Rattle.std.specs.Prelude.{◌≡◌, ℕ, ◌^◌, ◌<◌};
 ghost use Rattle.epistemic.specs.Acts.{moved, with_feature};
 ghost use Rattle.epistemic.specs.Bits.{image, put};
-ghost use Rattle.epistemic.specs.Cells.{Fit};
 ghost use Rattle.sheets.specs.Events.{entry};
 ghost use Rattle.knowledge.specs.Acting.{event_of};
 
-use crate::cell::has;
+use crate::cell::{Cell, has};
 use crate::formula::letter_mask;
 use sheets::Event;
 
-// The new valuations from those of a mask over `letters` features.
-pub(crate) fn image(letters: u8, event: Event<'_>, mask: u64) -> u64
-    requires few { letters ≤ 6 }
-    requires within { Fit letters mask }
-    ensures { result ≡ image (moved letters (event_of letters (entry event.entry))) mask (2 ^ letters) }
-{
-    let mut moved = mask;
-    for i in 0..letters {
-        moved = changed(letters, event, i, moved);
+impl Cell {
+    // The valuations after the event, from those of the cell.
+    pub(crate) fn image(self, event: Event<'_>) -> u64
+        ensures { result ≡ image (moved self.letters (event_of self.letters (entry event.entry))) self.mask (2 ^ self.letters) }
+    {
+        let mut moved = self.mask;
+        // Not by `fold`: `changed` asks that `i` is a letter, which its closure is not told.
+        for i in 0..self.letters {
+            moved = changed(event, i, moved);
+        }
+        moved
     }
-    moved
 }
 
 // The valuations of the mask with feature `i` as the event leaves it.
-fn changed(letters: u8, event: Event<'_>, i: u8, mask: u64) -> u64
-    requires few { letters ≤ 6 }
-    requires below { i < letters }
-    ensures { result ≡ image (with_feature (event_of letters (entry event.entry)) i) mask 64 }
+fn changed(event: Event<'_>, i: u8, mask: u64) -> u64
+    requires { i < 6 }
+    ensures { (n : ℕ) → i < n → result ≡ image (with_feature (event_of n (entry event.entry)) i) mask 64 }
 {
-    if has(event.set as u64, i) {
-        raised(i, mask)
-    } else if has(event.clear as u64, i) {
-        lowered(i, mask)
+    if has(u64::from(event.set), i) {
+        assigned(mask, i, true)
+    } else if has(u64::from(event.clear), i) {
+        assigned(mask, i, false)
     } else {
         mask
     }
 }
 
-// The valuations of the mask with feature `i` set.
-fn raised(i: u8, mask: u64) -> u64
+// The valuations of the mask with feature `i` set to the value.
+fn assigned(mask: u64, i: u8, value: bool) -> u64
     requires { i < 6 }
-    ensures { result ≡ image (put i true) mask 64 }
+    ensures { result ≡ image (put i value) mask 64 }
 {
-    (mask | mask << (1u32 << i)) & letter_mask(i)
-}
-
-// The valuations of the mask with feature `i` cleared.
-fn lowered(i: u8, mask: u64) -> u64
-    requires { i < 6 }
-    ensures { result ≡ image (put i false) mask 64 }
-{
-    (mask | mask >> (1u32 << i)) & !letter_mask(i)
+    let holds = letter_mask(i);
+    if value {
+        (mask | mask << (1u32 << i)) & holds
+    } else {
+        (mask | mask >> (1u32 << i)) & !holds
+    }
 }

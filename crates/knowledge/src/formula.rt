@@ -5,6 +5,29 @@ ghost use Rattle.epistemic.specs.Cells.{letter_mask, truth};
 ghost use Rattle.knowledge.specs.Judging.{Judged};
 ghost use Rattle.knowledge.specs.Texts.{atom, read};
 
+use crate::cell::Cell;
+
+impl Cell {
+    // The valuations of the cell at which the formula holds that the bytes begin with.
+    pub(crate) fn part(self, text: &[u8]) -> Cell
+        ensures letters { result.letters ≡ self.letters }
+        ensures mask { result.mask ≡ truth self.letters self.mask (read self.letters text.now).formula }
+    {
+        let (mask, _) = evaluate(self.mask, self.letters, text);
+        Cell {
+            letters: self.letters,
+            mask,
+        }
+    }
+
+    // Whether the formula that the bytes begin with holds at all valuations of the cell.
+    pub(crate) fn satisfies(self, text: &[u8]) -> bool
+        ensures { result ≡ nat_eq (truth self.letters self.mask (read self.letters text.now).formula) self.mask }
+    {
+        self.part(text).mask == self.mask
+    }
+}
+
 /// The valuations of the cell, as a mask, at which the formula holds that the bytes begin with, and the bytes after it.
 ///
 /// Letters are those below `letters`. Bytes that are no formula are evaluated too: a byte that is no sign, a letter past
@@ -51,7 +74,7 @@ fn known(cell: u64, inner: u64) -> u64
     if inner == cell { cell } else { 0 }
 }
 
-// The whole cell if the mask has a valuation, else nothing.
+// The whole cell if the mask has a valuation, else nothing. Beside `known`: each is one test, and the tests differ.
 fn possibly(cell: u64, inner: u64) -> u64
     ensures { result ≡ (if nat_eq inner 0 then 0 else cell) }
 {
@@ -62,31 +85,27 @@ fn possibly(cell: u64, inner: u64) -> u64
 fn atom_mask(cell: u64, letters: u8, sign: u8) -> u64
     ensures { result ≡ truth 6 cell (atom letters sign) }
 {
-    if sign == b'T' {
-        return cell;
-    }
-    if sign < b'a' {
-        return 0;
-    }
-    let i = sign - b'a';
-    if i < letters {
-        cell & letter_mask(i)
-    } else {
-        0
+    match sign {
+        b'T' => cell,
+        b'a'.. if sign - b'a' < letters => cell & letter_mask(sign - b'a'),
+        _ => 0,
     }
 }
 
+// The valuations at which each letter holds.
+const LETTER_MASKS: [u64; 6] = [
+    0xAAAA_AAAA_AAAA_AAAA,
+    0xCCCC_CCCC_CCCC_CCCC,
+    0xF0F0_F0F0_F0F0_F0F0,
+    0xFF00_FF00_FF00_FF00,
+    0xFFFF_0000_FFFF_0000,
+    0xFFFF_FFFF_0000_0000,
+];
+
 // The valuations at which letter `i` holds.
+#[tactic(auto, using(crate::proofs::Letters::letter_at))]
 pub(crate) fn letter_mask(i: u8) -> u64
     ensures { result ≡ letter_mask 6 i }
 {
-    match i {
-        0 => 0xAAAA_AAAA_AAAA_AAAA,
-        1 => 0xCCCC_CCCC_CCCC_CCCC,
-        2 => 0xF0F0_F0F0_F0F0_F0F0,
-        3 => 0xFF00_FF00_FF00_FF00,
-        4 => 0xFFFF_0000_FFFF_0000,
-        5 => 0xFFFF_FFFF_0000_0000,
-        _ => 0,
-    }
+    LETTER_MASKS.get(usize::from(i)).copied().unwrap_or(0)
 }

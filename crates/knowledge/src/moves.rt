@@ -1,16 +1,14 @@
 //! Where the events of an act lead from one valuation of a cell.
 
 ghost use Rattle.std.specs.Prelude.{◌≡◌, ◌≤◌, length};
-ghost use Rattle.std.specs.List.{slice_get};
+ghost use Rattle.std.specs.Iterator.{YieldsFirst, item_count};
 ghost use Rattle.sheets.specs.Events.{entry};
 ghost use Rattle.epistemic.specs.Acts.{moved};
-ghost use Rattle.epistemic.specs.Cells.{Fit};
 ghost use Rattle.knowledge.specs.Acting.{act_of, event_of};
 ghost use Rattle.knowledge.specs.Moves.{moves_of, possible_at};
 
-use crate::cell::has;
-use crate::formula::evaluate;
-use sheets::{Event, first_event};
+use crate::cell::{Cell, has};
+use sheets::{Event, Events};
 
 /// Where an event leads: the outcome that the agent sees, by its class, and the new valuation.
 #[derive(Clone, Copy)]
@@ -21,67 +19,58 @@ pub struct Move {
     pub valuation: u8,
 }
 
-// The move of that number, from 0, among those of the possible events of an act; nothing past the last.
-pub(crate) fn nth_move(
-    letters: u8,
-    cell: u64,
+// Goes through the moves from a valuation of a cell, by those events of an act that are possible there.
+#[derive(Clone, Copy)]
+pub(crate) struct Moves<'a> {
+    cell: Cell,
     valuation: u8,
-    act: &[u8],
-    number: usize,
-) -> Option<Move>
-    requires few { letters ≤ 6 }
-    requires within { Fit letters cell }
-    ensures { result ≡ slice_get (moves_of letters cell valuation (act_of letters act.now)) number }
-{
-    let mut left = number;
-    let mut rest = act;
-    while let Some((event, after)) = first_event(rest) {
-        rest = after;
-        if !possible_at(letters, cell, valuation, event) {
-            continue;
-        }
-        if left == 0 {
-            let class = event.class % 8;
-            let valuation = new_valuation(letters, event, valuation);
-            return Some(Move { class, valuation });
-        }
-        left -= 1;
+    events: Events<'a>,
+}
+
+impl Iterator for Moves<'_> {
+    type Item = Move;
+
+    ghost next_gives = { YieldsFirst (λ m. moves_of m.cell.letters m.cell.mask m.valuation (act_of m.cell.letters m.events.rest.now)) };
+
+    ghost remaining = { item_count (λ m. moves_of m.cell.letters m.cell.mask m.valuation (act_of m.cell.letters m.events.rest.now)) };
+
+    fn next(&mut self) -> Option<Move> {
+        let cell = self.cell;
+        let valuation = self.valuation;
+        let event = self
+            .events
+            .find(|event| cell.possible_at(valuation, *event))?;
+        Some(Move {
+            class: event.class % 8,
+            valuation: cell.moved(valuation, event),
+        })
     }
-    None
 }
 
-// How many events of an act are possible at a valuation of a cell.
-pub(crate) fn count_moves(letters: u8, cell: u64, valuation: u8, act: &[u8]) -> usize
-    requires few { letters ≤ 6 }
-    requires within { Fit letters cell }
-    ensures { result ≡ length (moves_of letters cell valuation (act_of letters act.now)) }
-{
-    let mut count: usize = 0;
-    let mut rest = act;
-    while let Some((event, after)) = first_event(rest) {
-        rest = after;
-        if !possible_at(letters, cell, valuation, event) {
-            continue;
+impl Cell {
+    // The moves from a valuation of the cell by the act that the bytes spell.
+    pub(crate) fn moves<'a>(self, valuation: u8, act: &'a [u8]) -> Moves<'a>
+        ensures moves { moves_of result.cell.letters result.cell.mask result.valuation (act_of result.cell.letters result.events.rest.now) ≡ moves_of self.letters self.mask valuation (act_of self.letters act.now) }
+        ensures few { length (moves_of self.letters self.mask valuation (act_of self.letters act.now)) ≤ length act.now }
+    {
+        Moves {
+            cell: self,
+            valuation,
+            events: Events::new(act),
         }
-        count += 1;
     }
-    count
-}
 
-// Whether the event is possible at the valuation of the cell.
-fn possible_at(letters: u8, cell: u64, valuation: u8, event: Event<'_>) -> bool
-    requires few { letters ≤ 6 }
-    requires within { Fit letters cell }
-    ensures { result ≡ possible_at letters cell valuation (event_of letters (entry event.entry)) }
-{
-    let (mask, _) = evaluate(cell, letters, event.condition);
-    has(mask, valuation)
-}
+    // Whether the event is possible at the valuation, which lies in the cell.
+    fn possible_at(self, valuation: u8, event: Event<'_>) -> bool
+        ensures { result ≡ possible_at self.letters self.mask valuation (event_of self.letters (entry event.entry)) }
+    {
+        has(self.part(event.condition).mask, valuation)
+    }
 
-// The valuation after the event.
-fn new_valuation(letters: u8, event: Event<'_>, valuation: u8) -> u8
-    requires { letters ≤ 6 }
-    ensures { result ≡ moved letters (event_of letters (entry event.entry)) valuation }
-{
-    (valuation & !event.clear | event.set) & ((1 << letters) - 1)
+    // The valuation after the event.
+    fn moved(self, valuation: u8, event: Event<'_>) -> u8
+        ensures { result ≡ moved self.letters (event_of self.letters (entry event.entry)) valuation }
+    {
+        (valuation & !event.clear | event.set) & ((1 << self.letters) - 1)
+    }
 }

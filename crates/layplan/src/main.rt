@@ -17,15 +17,16 @@ const ENOUGH: u64 = 16_385;
 fn run<R: Read + Drop, W: Write>(heap: Global, input: R, output: &mut W) -> anyhow::Result<bool> {
     let mut sheet = Vec::new(heap);
     input.take(ENOUGH).read_to_end(&mut sheet)?;
-    let printout = print_sheet(heap, sheet.as_slice())?;
-    output.write_all(printout.text.as_slice())?;
-    Ok(printout.accepted)
+    let printout = print_sheet(heap, &sheet)?;
+    output.write_all(printout.text())?;
+    Ok(printout.accepted())
 }
 
 fn main(rt: HostRuntime) -> anyhow::Result<ExitCode> {
-    if run(rt.alloc(), rt.stdin(), &mut rt.stdout())? {
-        Ok(ExitCode::SUCCESS)
+    let accepted = run(rt.alloc(), rt.stdin(), &mut rt.stdout())?;
+    Ok(if accepted {
+        ExitCode::SUCCESS
     } else {
-        Ok(ExitCode::FAILURE)
-    }
+        ExitCode::FAILURE
+    })
 }

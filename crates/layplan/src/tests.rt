@@ -9,11 +9,8 @@ const MENDED: &[u8; 19] = b"\x02\0\x0a\0\x08\0\x12\0\x01\0\x0c\0\0\0\0\0\0\0b";
 
 // Whether the sheet is accepted when zeros follow it, so many bytes in all, and what is written.
 fn told(heap: Global, size: usize) -> anyhow::Result<(bool, Vec<u8>)> {
-    let mut sheet = Vec::new(heap);
-    sheet.extend_from_slice(MENDED)?;
-    for _ in MENDED.len()..size {
-        sheet.push(0)?;
-    }
+    let mut sheet = Vec::from_slice(heap, MENDED)?;
+    sheet.resize(size, 0)?;
     let mut text = Vec::new(heap);
     let accepted = run(heap, sheet.as_slice(), &mut text)?;
     Ok((accepted, text))
@@ -26,9 +23,9 @@ fn a_sheet_may_have_16384_bytes(rt: HostRuntime) -> Result<(), Fail> {
         (16_385, false, "stop 1 0 0\n"),
         (40_000, false, "stop 1 0 0\n"),
     ] {
-        let Ok((is_accepted, written)) = told(rt.alloc(), size) else {
-            return Err(Fail::new("memory is short"));
-        };
+        let (is_accepted, written) = told(rt.alloc(), size).map_err(|_| Fail::new(
+            "memory is short",
+        ))?;
         assert_eq!(rt; is_accepted, accepted);
         assert!(rt; written.as_slice() == text.as_bytes());
     }

@@ -5,11 +5,11 @@ use Rattle.std.proofs.lemmas.Nat.{mul-le}
 use Rattle.std.proofs.lemmas.Fmt.{length-decimal-le}
 use Rattle.std.proofs.lemmas.List.{length-append, length-take}
 use Rattle.std.proofs.lemmas.Bool.{cases_lt}
+use Rattle.std.proofs.lemmas.Option.{slice_get_within}
 use Rattle.planning.specs.Meaning.{Meaning, Lawful}
 use Rattle.planning.specs.Finding.{found, place_of}
 use Rattle.planning.specs.Ranks.{act_of, brings, largest, rank_by, within}
 use Rattle.planning.proofs.Deepest.{deepest_most}
-use Rattle.planning.proofs.Lists.{place_below}
 use Rattle.planning.proofs.Ranking.{first_lowest}
 use Rattle.planning.proofs.Seen.{placed}
 use Rattle.session.specs.declared.plain.Standing.{Standing}
@@ -92,7 +92,7 @@ module _ {S : Type 0} (m : Meaning S) (law : Lawful m) (n u : ℕ) (few : n ≤ 
       (λ p e. let w = placed m o 0 (known m n u) p e in
       let q = w.is in
       let z : 0 + w.place ≡ p = cc in
-      let b = place_below (known m n u) w.place w.state w.at in
+      let b = slice_get_within (known m n u) w.place w.state w.at in
       let l = listed_most in (omega arith, omega arith)) in
       let k = spaced_most f h (m.outcomes s a) in
       let l = law.few_outcomes s a in
@@ -114,7 +114,7 @@ module _ {S : Type 0} (m : Meaning S) (law : Lawful m) (n u : ℕ) (few : n ≤ 
       go None e = omega arith
       go (Some s) e =
           let row = rows_at m (length (known m n u)) (progress m n u).units 0 (known m n u) i s e in
-          let low = place_below (known m n u) i s e in
+          let low = slice_get_within (known m n u) i s e in
           let l = listed_most in
           let a = length-decimal-le 4 i (omega arith) (omega arith) (omega arith) in
           let b = ranked s in

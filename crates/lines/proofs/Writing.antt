@@ -1,7 +1,8 @@
 -- What is written one after another in a text that keeps 64 bytes. Assumes nothing.
-use Rattle.std.proofs.Common.{◌≡◌, ℕ, ◌+◌, ◌/◌, ◌%◌, ◌^◌, ◌<◌, ◌≤◌, min, List, [], ◌∷◌, ◌++◌, length, get_or, take, set, decimal, sym, ap, ◌∙◌, inl, inr, arith}
-use Rattle.std.proofs.lemmas.List.{append_assoc, append-nil, length-take-le, take_all, take-append-le, take_at, take_more, take_more_set, take-take}
-use Rattle.std.proofs.lemmas.Fmt.{decimal_digit, decimal_step}
+use Rattle.std.proofs.Common.{◌≡◌, ℕ, ◌+◌, ◌-◌, ◌≤◌, min, List, [], ◌++◌, length, take, Some, Ok, Err, Result, sym, refl, ap, ◌∙◌, inl, inr, arith}
+use Rattle.std.specs.Io.KnownBytes.{WriteAppends}
+use Rattle.std.proofs.Math.Seq.{take-append-add}
+use Rattle.std.proofs.lemmas.List.{append_assoc, append-nil, length-take-le, take_all, take-append-le, take_min, take-take}
 use Rattle.std.proofs.lemmas.Bool.{cases_lt}
 use Rattle.lines.specs.Texts.{clip}
 
@@ -23,34 +24,20 @@ written_on t t' t'' a b p q = q ∙ ap (λ xs. clip (xs ++ b)) p ∙ clip_on (t 
 pub written_none : (xs : List ℕ) → clip xs ≡ clip (clip xs ++ [])
 written_none xs = sym (clip_on xs [] ∙ ap clip (append-nil xs))
 
--- one byte is written where there is room, and left out where there is none
-module _ (bs : List ℕ) (k b : ℕ) where
-  pub byte_in : k < length bs → clip (take (k + 1) (set bs k b)) ≡ clip (clip (take k bs) ++ b ∷ [])
-  byte_in l = ap clip (take_more_set bs k b l) ∙ sym (clip_on (take k bs) (b ∷ []))
-
-  pub byte_out : length bs ≡ 64 → 64 ≤ k → clip (take k bs) ≡ clip (clip (take k bs) ++ b ∷ [])
-  byte_out whole l =
-      let e : take k bs ≡ bs = take_all k bs (omega arith) in
-      ap clip e ∙ take_all 64 bs (omega arith) ∙ sym (clip_on (take k bs) (b ∷ []) ∙ ap (λ xs. clip (xs ++ b ∷ [])) e ∙ take_at bs (b ∷ []) 64 whole)
-
--- a word up to place i is written, and then its next byte
-pub word_on : (t t' t'' word : List ℕ) (i : ℕ) → i < length word → t' ≡ clip (t ++ take i word) → t'' ≡ clip (t' ++ get_or word i 0 ∷ []) → t'' ≡ clip (t ++ take (i + 1) word)
-word_on t t' t'' word i l p q = written_on t t' t'' (take i word) (get_or word i 0 ∷ []) p q ∙ ap (λ bs. clip (t ++ bs)) (sym (take_more word i 0 l))
-
--- a number is written, of one digit or of more
-pub digit_alone : (t t' : List ℕ) (n : ℕ) → n < 10 → t' ≡ clip (t ++ (48 + n % 10) ∷ []) → t' ≡ clip (t ++ decimal n)
-digit_alone t t' n l p =
-    let e : n % 10 ≡ n = omega arith in
-    p ∙ ap (λ d. clip (t ++ (48 + d) ∷ [])) e ∙ ap (λ bs. clip (t ++ bs)) (sym (decimal_digit n l))
-
-pub digit_last : (t t' t'' : List ℕ) (n : ℕ) → 10 ≤ n → n < 2 ^ 64 → t' ≡ clip (t ++ decimal (n / 10)) → t'' ≡ clip (t' ++ (48 + n % 10) ∷ []) → t'' ≡ clip (t ++ decimal n)
-digit_last t t' t'' n l h p q =
-    written_on t t' t'' (decimal (n / 10)) ((48 + n % 10) ∷ []) p q ∙ ap (λ bs. clip (t ++ bs)) (sym (decimal_step n l h))
-
--- the first n bytes of the store are the text
-pub text_is : (bs : List ℕ) (k n : ℕ) → length bs ≡ 64 → n ≡ min k 64 → take n bs ≡ clip (take k bs)
-text_is bs k n whole e =
-    elim (cases_lt k 64) [
-      | inl l ↦ let z : n ≡ k = omega arith in ap (λ i. take i bs) z ∙ sym (take_all 64 (take k bs) (omega (arith, length-take-le k bs (omega arith))))
-      | inr l ↦ let z : n ≡ 64 = omega arith in ap (λ i. take i bs) z ∙ ap clip (sym (take_all k bs (omega arith)))
-    ]
+-- the first n bytes of a word are written: as many as there is room for
+pub word_in : {E : Type 0} (old new word : List ℕ) (r : Result ℕ E) → WriteAppends (Some old) (Some new) r word → r ≡ Ok (min (64 - length old) (length word)) → clip new ≡ clip (clip old ++ word)
+word_in old new word (Err e) h c = absurd (let z : ◌≡◌ {A = ℕ} 0 1 = cc in omega arith)
+word_in old new word (Ok n) h c =
+    let k : ℕ = 64 - length old in
+    let e : n ≡ min k (length word) = cc in
+    ap clip (h ∙ ap (λ i. old ++ take i word) e ∙ ap (λ xs. old ++ xs) (take_min k word)) ∙ go k refl ∙ sym (clip_on old word)
+  where
+    go : (k : ℕ) → k ≡ 64 - length old → clip (old ++ take k word) ≡ clip (old ++ word)
+    go k e =
+        elim (cases_lt 64 (length old)) [
+          | inl l ↦ take-append-le 64 old (take k word) (omega arith) ∙ sym (take-append-le 64 old word (omega arith))
+          | inr l ↦
+              let z : 64 ≡ length old + k = omega arith in
+              ap (λ i. take i (old ++ take k word)) z ∙ take-append-add old (take k word) k ∙ ap (λ xs. old ++ xs) (take-take k k word (omega arith))
+              ∙ sym (ap (λ i. take i (old ++ word)) z ∙ take-append-add old word k)
+        ]

@@ -8,7 +8,7 @@ clip bs = take 64 bs
 
 -- what has been written
 abbrev pub text : Text → List ℕ
-text t = clip (take t.used t.bytes)
+text t = clip t.bytes.items
 
 -- bs has been written at the end of t
 abbrev pub Adds : Text → List ℕ → Text → Type 0

@@ -2,25 +2,43 @@
 
 #![tactic(auto)]
 
+ghost use Rattle.std.specs.Prelude.{Some};
 ghost use Rattle.session.specs.Views.{view};
 ghost use Rattle.lines.specs.Calls.{Printed};
+ghost use Rattle.lines.specs.Stops.{line_stop_text};
 
 mod tell;
 mod text;
 
 use planning::Book;
 use session::{Session, Standing};
+use std::error::Error;
+use std::fmt;
 use tell::told;
 use text::ROOM;
 
 /// Why a line was refused.
-#[derive(Clone, Copy)]
+#[derive(Clone, Copy, Debug, PartialEq, Eq)]
 pub enum LineStop {
     /// The buffer has fewer than 64 bytes.
     Short,
     /// The search has not ended.
     Working,
 }
+
+/// Says why, with the number of the refusal.
+impl fmt::Display for LineStop {
+    ghost output = { λ e. Some (line_stop_text e) };
+
+    fn fmt<W: fmt::Write>(&self, f: &mut fmt::Formatter<W>) -> fmt::Result {
+        f.write_str(match self {
+            LineStop::Short => "the buffer is short: stop 18",
+            LineStop::Working => "still working: stop 9",
+        })
+    }
+}
+
+impl Error for LineStop {}
 
 /// Writes a line into the beginning of the buffer and answers its length; the bytes after it stay as they are.
 ///
@@ -42,9 +60,8 @@ pub fn line<B: Book>(
     if buffer.len() < ROOM {
         return Err(LineStop::Short);
     }
-    if let Standing::Working = session.progress().standing {
+    if session.progress().standing == Standing::Working {
         return Err(LineStop::Working);
     }
-    let text = told(session, book, index);
-    Ok(text.put(buffer))
+    Ok(told(session, book, index).put(buffer))
 }

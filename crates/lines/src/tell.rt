@@ -3,11 +3,11 @@
 ghost use Rattle.std.specs.Prelude.{◌≡◌, ◌∷◌, map, Some, decimal};
 ghost use Rattle.std.specs.List.{slice_get};
 ghost use Rattle.session.specs.Views.{view};
-ghost use Rattle.lines.specs.Texts.{Adds, clip, text};
-ghost use Rattle.lines.specs.Words.{first_words, held_text, number_word, outcome_words, place_words, sentence, spaced};
+ghost use Rattle.lines.specs.Texts.{clip, text};
+ghost use Rattle.lines.specs.Words.{first_words, held_text, place_words, sentence};
 
 use crate::text::Text;
-use planning::{Book, find};
+use planning::{Book, Outcomes, find};
 use session::{Progress, Row, Session, Standing};
 
 // The line of a word and some numbers.
@@ -16,10 +16,10 @@ fn counts(word: &[u8], numbers: &[usize]) -> Text
 {
     let mut text = Text::new();
     text.word(word);
-    for n in numbers {
-        text.next(*n);
+    for &n in numbers {
+        text.next(n);
     }
-    text.byte(b'\n');
+    text.word(b"\n");
     text
 }
 
@@ -31,49 +31,8 @@ fn first_line(progress: Progress, listed: usize) -> Text
     match progress.standing {
         Standing::Working => Text::new(),
         Standing::NoPlan => counts(b"none", &[listed, units]),
-        Standing::Found(depth) => counts(b"found", &[depth as usize, listed, units]),
+        Standing::Found(depth) => counts(b"found", &[usize::from(depth), listed, units]),
         Standing::Full(unit) => counts(b"full", &[unit as usize]),
-    }
-}
-
-// A rank, as a number of any size.
-fn wide(rank: Option<u16>) -> Option<usize>
-    ensures { result ≡ rank }
-{
-    match rank {
-        Some(j) => Some(j as usize),
-        None => None,
-    }
-}
-
-// Writes the places of the outcomes that an act has in s.
-fn outcomes<B: Book>(text: &mut Text, book: &B, states: &[B::State], s: B::State, act: u8)
-    ensures { Adds text.old (spaced (outcome_words (B.meaning book.now) states.now s (Some act))) text.new }
-{
-    for number in 0..8 {
-        match book.outcome(s, act, number) {
-            Some(o) => text.next_or_blank(find(book, states, o)),
-            None => return,
-        }
-    }
-}
-
-// Writes an act and the places of its outcomes in s, or a dash for a blank.
-fn act_and_outcomes<B: Book>(
-    text: &mut Text,
-    book: &B,
-    states: &[B::State],
-    s: B::State,
-    act: Option<u8>,
-)
-    ensures { Adds text.old (spaced (number_word act ∷ outcome_words (B.meaning book.now) states.now s act)) text.new }
-{
-    match act {
-        Some(act) => {
-            text.next(act as usize);
-            outcomes(text, book, states, s, act);
-        }
-        None => text.next_or_blank(None),
     }
 }
 
@@ -83,9 +42,14 @@ fn row_line<B: Book>(book: &B, states: &[B::State], i: usize, s: B::State, row: 
 {
     let mut text = Text::new();
     text.number(i);
-    text.next_or_blank(wide(row.rank));
-    act_and_outcomes(&mut text, book, states, s, row.act);
-    text.byte(b'\n');
+    text.next_or_blank(row.rank.map(usize::from));
+    text.next_or_blank(row.act.map(usize::from));
+    if let Some(act) = row.act {
+        for o in Outcomes::new(book, s, act) {
+            text.next_or_blank(find(book, states, o));
+        }
+    }
+    text.word(b"\n");
     text
 }
 
@@ -93,10 +57,10 @@ fn row_line<B: Book>(book: &B, states: &[B::State], i: usize, s: B::State, row: 
 fn place_line<B: Book>(book: &B, states: &[B::State], rows: &[Row], i: usize) -> Text
     ensures { text result ≡ clip (sentence (place_words (B.meaning book.now) states.now i (slice_get states.now i) (slice_get rows.now i))) }
 {
-    if i >= states.len() || i >= rows.len() {
-        return Text::new();
+    match (states.get(i), rows.get(i)) {
+        (Some(&s), Some(&row)) => row_line(book, states, i, s, row),
+        _ => Text::new(),
     }
-    row_line(book, states, i, states[i], rows[i])
 }
 
 // The line of that index, as the session holds it.
@@ -105,12 +69,11 @@ pub(crate) fn told<B: Book>(session: &Session<'_, B::State>, book: &B, index: us
 {
     let progress = session.progress();
     let states = session.states();
-    let rows = session.rows();
-    if index == 0 {
+    let Some(i) = index.checked_sub(1) else {
         return first_line(progress, states.len());
-    }
+    };
     match progress.standing {
-        Standing::NoPlan | Standing::Found(_) => place_line(book, states, rows, index - 1),
-        _ => Text::new(),
+        Standing::NoPlan | Standing::Found(_) => place_line(book, states, session.rows(), i),
+        Standing::Working | Standing::Full(_) => Text::new(),
     }
 }

@@ -5,14 +5,17 @@ ghost use Rattle.lines.specs.Calls.{over};
 ghost use Rattle.lines.specs.Texts.{Adds, text};
 ghost use Rattle.lines.specs.Words.{number_word, spaced};
 
+use arrayvec::ArrayVec;
+use itoa::Buffer;
+use std::io::Write;
+
 // The most bytes that a line needs.
 pub(crate) const ROOM: usize = 64;
 
 // A text under way: what does not fit is left out.
-#[derive(Clone, Copy)]
+#[derive(Drop)]
 pub(crate) struct Text {
-    bytes: [u8; ROOM],
-    used: usize,
+    bytes: ArrayVec<u8, ROOM>,
 }
 
 impl Text {
@@ -21,18 +24,7 @@ impl Text {
         ensures { text result ≡ [] }
     {
         Text {
-            bytes: [0; ROOM],
-            used: 0,
-        }
-    }
-
-    // Writes one byte.
-    pub(crate) fn byte(&mut self, b: u8)
-        ensures { Adds self.old (b ∷ []) self.new }
-    {
-        if self.used < ROOM {
-            self.bytes[self.used] = b;
-            self.used += 1;
+            bytes: ArrayVec::new(),
         }
     }
 
@@ -40,26 +32,23 @@ impl Text {
     pub(crate) fn word(&mut self, word: &[u8])
         ensures { Adds self.old word.now self.new }
     {
-        for b in word {
-            self.byte(*b);
-        }
+        let _taken = self.bytes.write(word);
     }
 
     // Writes a number in decimal.
+    // Not by `write!`, whose clauses name the bytes where it answers `Ok`, but never say that it does.
     pub(crate) fn number(&mut self, n: usize)
         ensures { Adds self.old (decimal n) self.new }
     {
-        if n >= 10 {
-            self.number(n / 10);
-        }
-        self.byte(b'0' + (n % 10) as u8);
+        let mut digits = Buffer::new();
+        self.word(digits.format(n).as_bytes());
     }
 
     // Writes a space and a number.
     pub(crate) fn next(&mut self, n: usize)
         ensures { Adds self.old (spaced (decimal n ∷ [])) self.new }
     {
-        self.byte(b' ');
+        self.word(b" ");
         self.number(n);
     }
 
@@ -79,8 +68,8 @@ impl Text {
         ensures answer { result ≡ length (text self.now) }
         ensures after { buffer.new ≡ over (text self.now) buffer.old }
     {
-        let n = self.used.min(ROOM);
-        buffer[0..n].copy_from_slice(&self.bytes[0..n]);
+        let n = self.bytes.len();
+        buffer[..n].copy_from_slice(&self.bytes);
         n
     }
 }

@@ -3,11 +3,12 @@ use Rattle.std.proofs.Common.{◌≡◌, ℕ, zero, suc, ◌<◌, ◌≤◌, Boo
 use mathlib.Core.List.{Memᴰ}
 use Rattle.std.specs.List.{slice_get}
 use Rattle.std.proofs.lemmas.Bool.{cases_lt}
+use Rattle.std.proofs.lemmas.Option.{slice_get_within}
 use Rattle.planning.specs.Meaning.{Meaning, Lawful, Alike}
 use Rattle.planning.specs.Finding.{listed, joined, joined_all, outcomes_from, expanded, found, Final}
 use Rattle.planning.specs.Theory.{ListGrows}
 use Rattle.planning.proofs.Tests.{clash, fails, or_left, or_right}
-use Rattle.planning.proofs.Lists.{none_some, no_member, place_below}
+use Rattle.planning.proofs.Lists.{none_some, no_member}
 use Rattle.planning.proofs.Places.{Placed, placed_listed, kept_found, short_stays, expands, closed}
 
 module _ {S : Type 0} (m : Meaning S) where
@@ -53,7 +54,7 @@ module _ {S : Type 0} (m : Meaning S) where
             ]
         | inr a' ↦
             elim (nth_end xs y j t b) [
-              | inl b' ↦ absurd (omega (arith, place_below xs j t b', a'.0))
+              | inl b' ↦ absurd (omega (arith, slice_get_within xs j t b', a'.0))
               | inr b' ↦ absurd (omega (arith, a'.0, b'.0))
             ]
       ]
@@ -74,7 +75,7 @@ module _ {S : Type 0} (m : Meaning S) where
   distinct_expanded xs (Some s) h = distinct_all xs (outcomes_from m s 0 m.acts) h
 
   distinct : (k : ℕ) → Distinct (found m k)
-  distinct zero = λ i j s t a b l. absurd (omega (arith, place_below (found m 0) j t b))
+  distinct zero = λ i j s t a b l. absurd (omega (arith, slice_get_within (found m 0) j t b))
   distinct (suc k) = distinct_expanded (found m k) (slice_get (found m k) k) (distinct k)
 
 module _ {S : Type 0} (m : Meaning S) (law : Lawful m) where

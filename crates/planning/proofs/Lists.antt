@@ -116,10 +116,7 @@ module _ {S : Type 0} (p q : S → Bool) (weaker : (x : S) → T (p x) → T (q 
       omega (arith, passing_le xs)
   passing_lt (x ∷ xs) (suc i) s at f t = omega (arith, passing_lt xs i s at f t, bit_le (p x) (q x) (weaker x))
 
--- a place that holds something is below the length, and one that holds nothing is not
-pub place_below : {S : Type 0} (xs : List S) (i : ℕ) (s : S) → slice_get xs i ≡ Some s → i < length xs
-place_below xs i s at = elim (cases_lt i (length xs)) [ inl h ↦ h | inr h ↦ absurd (none_some (slice_get_past xs i h) at) ]
-
+-- a place that holds nothing is not below the length
 pub place_past : {S : Type 0} (xs : List S) (i : ℕ) → slice_get xs i ≡ None → length xs ≤ i
 place_past [] i e = omega arith
 place_past (x ∷ xs) zero e = absurd (none_some e refl)

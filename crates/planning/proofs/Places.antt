@@ -5,12 +5,12 @@ use mathlib.Core.List.Memᴰ
 use mathlib.Core.List.{Memᴰ}
 use native.Mathlib.Decide.{le_ind}
 use Rattle.std.specs.List.{slice_get}
-use Rattle.std.proofs.lemmas.Option.{slice_get_past}
+use Rattle.std.proofs.lemmas.Option.{slice_get_past, slice_get_within}
 use Rattle.std.proofs.lemmas.Bool.{cases_lt}
 use Rattle.planning.specs.Meaning.{Meaning, Lawful}
 use Rattle.planning.specs.Finding.{listed, joined, joined_all, outcomes_from, expanded, found, Final}
 use Rattle.planning.proofs.Tests.{or_cases}
-use Rattle.planning.proofs.Lists.{none_some, place_below, place_past}
+use Rattle.planning.proofs.Lists.{none_some, place_past}
 
 -- what has a place in xs has it in ys
 abbrev pub Kept : {S : Type 0} → List S → List S → Type 0
@@ -111,4 +111,4 @@ module _ {S : Type 0} (m : Meaning S) (law : Lawful m) where
       placed_kept m (kept_found m (suc i) k below) (subst (λ x. Placed m (expanded m (found m i) x) o) (sym (was_there m k i s below at)) new)
 
   pub closed : (r : ℕ) → Final m r → (i : ℕ) (s : S) → slice_get (found m r) i ≡ Some s → (a : ℕ) → a < m.acts → (o : S) → Memᴰ o (m.outcomes s a) → Placed m (found m r) o
-  closed r final i s at = expands r i s (omega (arith, place_below (found m r) i s at)) at
+  closed r final i s at = expands r i s (omega (arith, slice_get_within (found m r) i s at)) at

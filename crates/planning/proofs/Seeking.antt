@@ -1,22 +1,30 @@
--- The first place of a same state, found one place after another. Assumes nothing.
-use Rattle.std.proofs.Common.{◌≡◌, ℕ, suc, ◌+◌, ◌<◌, ◌≤◌, Bool, true, false, cond, List, length, get_or, drop, Some, None, sym, ap, ◌∙◌, add-one}
-use Rattle.std.proofs.lemmas.List.{drop_more, drop_all}
+-- The first place of a same state is the first position at which sameness holds. Assumes nothing.
+use Rattle.std.proofs.Common.{◌≡◌, ℕ, suc, ◌+◌, ◌^◌, ◌<◌, ◌≤◌, Fits, w8, cond, List, [], ◌∷◌, drop, Some, None, inl, inr, sym, refl, ap, ◌∙◌, add-one, arith, rules}
+use Rattle.std.specs.Prelude.{position}
+use Rattle.std.specs.List.{position_from, slice_get}
+use Rattle.std.proofs.lemmas.Iterator.Adapters.{position_from-zero}
+use Rattle.std.proofs.lemmas.List.{drop_all}
+use Rattle.std.proofs.lemmas.Option.{none-some, slice_get_cases}
 use Rattle.planning.specs.Meaning.{Meaning}
-use Rattle.planning.specs.Finding.{place_from}
+use Rattle.planning.specs.Finding.{place_from, place_of}
 
-module _ {S : Type 0} (m : Meaning S) (ts : List S) (s : S) where
-  pub place_step : (i : ℕ) (t : S) → i < length ts → t ≡ get_or ts i t → place_from m i (drop i ts) s ≡ cond (m.same t s) (Some i) (place_from m (i + 1) (drop (i + 1) ts) s)
-  place_step i t h e =
-      let d = ap (λ xs. place_from m i xs s) (drop_more ts i t h) in
-      let f = ap (λ x. cond (m.same x s) (Some i) (place_from m (suc i) (drop (i + 1) ts) s)) (sym e) in
-      let k = ap (λ n. cond (m.same t s) (Some i) (place_from m n (drop (i + 1) ts) s)) (sym (add-one i)) in
-      d ∙ f ∙ k
+module _ {S : Type 0} (m : Meaning S) (s : S) where
+  pub position_from-place : (i : ℕ) (ts : List S) → position_from (λ t. m.same t s) i ts ≡ place_from m i ts s
+  position_from-place i [] = refl
+  position_from-place i (t ∷ ts) =
+      ap (cond (m.same t s) (Some i)) (ap (λ n. position_from (λ t. m.same t s) n ts) (add-one i) ∙ position_from-place (suc i) ts)
 
-  pub place_hit : (i : ℕ) (t : S) (r : Bool) → i < length ts → t ≡ get_or ts i t → r ≡ m.same t s → r ≡ true → place_from m i (drop i ts) s ≡ Some i
-  place_hit i t r h e a b = place_step i t h e ∙ ap (λ x. cond x (Some i) (place_from m (i + 1) (drop (i + 1) ts) s)) (sym a ∙ b)
+  pub position-place : (ts : List S) → position (λ t. m.same t s) ts ≡ place_of m ts s
+  position-place ts = position_from-zero (λ t. m.same t s) ts ∙ position_from-place 0 ts
 
-  pub place_miss : (i : ℕ) (t : S) (r : Bool) → i < length ts → t ≡ get_or ts i t → r ≡ m.same t s → r ≡ false → place_from m i (drop i ts) s ≡ place_from m (i + 1) (drop (i + 1) ts) s
-  place_miss i t r h e a b = place_step i t h e ∙ ap (λ x. cond x (Some i) (place_from m (i + 1) (drop (i + 1) ts) s)) (sym a ∙ b)
+-- nothing is left of a list from a place that it does not have
+pub drop_past : {S : Type 0} (xs : List S) (n : ℕ) → slice_get xs n ≡ None → drop n xs ≡ []
+drop_past xs n e =
+    elim (slice_get_cases xs n).1 [
+      | inl h ↦ absurd (none-some h.0 (sym e ∙ h.2))
+      | inr h ↦ drop_all n xs h.0
+    ]
 
-  pub place_end : (i : ℕ) → length ts ≤ i → place_from m i (drop i ts) s ≡ None
-  place_end i h = ap (λ xs. place_from m i xs s) (drop_all i ts h)
+-- what comes after a number below 8 or less fits a byte
+pub fits_byte : {n k : ℕ} → n < k → k ≤ 8 → Fits w8 (n + 1)
+fits_byte {n} {k} h f = search rules

@@ -1,6 +1,6 @@
 //! The lines of a plan.
 
-ghost use Rattle.std.specs.Prelude.{◌≡◌, ℕ, ◌++◌, IfOk, vec_len, OnOk};
+ghost use Rattle.std.specs.Prelude.{◌≡◌, ℕ, ◌++◌, IfOk, OnOk};
 ghost use Rattle.session.specs.Calls.{Stands};
 ghost use Rattle.session.specs.Views.{places, view};
 ghost use Rattle.lines.specs.Words.{line_text};
@@ -18,22 +18,11 @@ const PLACES: usize = 4096;
 pub fn print_plan<B: Book>(heap: Global, book: &B) -> Result<Vec<u8>, AllocError>
     ensures { IfOk result (λ t. t.items ≡ plan_text (B.meaning book.now)) }
 {
-    let mut states = places_of(heap, book.start())?;
-    let mut rows = places_of(heap, BLANK)?;
-    let mut session = Session::new(book, states.as_mut_slice(), rows.as_mut_slice());
+    let mut states = vec![in heap; book.start(); PLACES]?;
+    let mut rows = vec![in heap; BLANK; PLACES]?;
+    let mut session = Session::new(book, &mut states, &mut rows);
     session.work(book, u32::MAX);
     session_lines(heap, book, &session)
-}
-
-// A list of places that hold `x`.
-fn places_of<T: Copy>(heap: Global, x: T) -> Result<Vec<T>, AllocError>
-    ensures { IfOk result (λ v. vec_len v ≡ 4096) }
-{
-    let mut places = Vec::new(heap);
-    for _ in 0..PLACES {
-        places.push(x)?;
-    }
-    Ok(places)
 }
 
 // Every line of a session, one after the other.
@@ -45,9 +34,8 @@ fn session_lines<B: Book>(
     ensures { IfOk result (λ t. ((u : ℕ) → Stands (B.meaning book.now) u (view session.now) → t.items ≡ all_lines (B.meaning book.now) (places (view session.now)) u)) }
 {
     let mut text = Vec::new(heap);
-    add_line(&mut text, book, session, 0)?;
-    for i in 0..session.states().len() {
-        add_line(&mut text, book, session, i + 1)?;
+    for index in 0..=session.states().len() {
+        add_line(&mut text, book, session, index)?;
     }
     Ok(text)
 }
@@ -61,9 +49,9 @@ fn add_line<B: Book>(
 ) -> Result<(), AllocError>
     ensures { OnOk result (((u : ℕ) → Stands (B.meaning book.now) u (view session.now) → text.new.items ≡ text.old.items ++ line_text (B.meaning book.now) (places (view session.now)) u index)) }
 {
-    let mut buffer = [0u8; 64];
-    match line(session, book, index, &mut buffer) {
-        Ok(n) => text.extend_from_slice(&buffer[0..n]),
-        Err(_) => Ok(()),
+    let mut buffer = [0; 64];
+    if let Ok(n) = line(session, book, index, &mut buffer) {
+        text.extend_from_slice(&buffer[..n])?;
     }
+    Ok(())
 }

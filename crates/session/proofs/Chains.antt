@@ -1,22 +1,12 @@
 -- Joining one list after another. Assumes nothing.
-use Rattle.std.proofs.Common.{◌≡◌, ℕ, zero, suc, ◌+◌, ◌-◌, ◌<◌, ◌≤◌, Bool, true, false, cond, List, [], ◌∷◌, ◌++◌, length, take, drop, Some, sym, refl, ap, ◌∙◌, subst, arith}
+use Rattle.std.proofs.Common.{◌≡◌, ℕ, zero, suc, ◌+◌, ◌-◌, ◌<◌, ◌≤◌, Bool, true, false, cond, List, [], ◌∷◌, ◌++◌, length, take, Some, sym, refl, ap, ◌∙◌, subst, arith}
 use Rattle.std.specs.List.{slice_get}
-use Rattle.std.proofs.lemmas.Option.{slice_get-get_or}
-use Rattle.std.proofs.lemmas.List.{append-nil, append_assoc, length-append, take_all, take-append-le, take-append-drop, take_more}
+use Rattle.std.proofs.lemmas.List.{append-nil, append_assoc, length-append, take-append-le, take_more}
 use Rattle.planning.specs.Meaning.{Meaning}
 use Rattle.planning.specs.Finding.{listed, joined, joined_all, outcomes_from}
-use Rattle.planning.proofs.Lists.{place_below}
 use Rattle.session.specs.Views.{View, places}
 use Rattle.session.specs.Joins.{Lists, Tried, Joins}
-use Rattle.session.proofs.Joining.{keeps_on}
-
--- a front of a list with one element more
-pub take_nth : {X : Type 0} (xs : List X) (i : ℕ) (x : X) → slice_get xs i ≡ Some x → take (i + 1) xs ≡ take i xs ++ x ∷ []
-take_nth xs i x e =
-    let h = place_below xs i x e in
-    let n = slice_get-get_or xs i x h in
-    let g = take_more xs i x h in
-    cc
+use Rattle.session.proofs.Joining.{keeps_on, keeps_same}
 
 module _ {S : Type 0} (m : Meaning S) where
   pub all_on : (ts ss us : List S) → joined_all m ts (ss ++ us) ≡ joined_all m (joined_all m ts ss) us
@@ -79,16 +69,18 @@ module _ {S : Type 0} (m : Meaning S) where
       let e : k ≡ (n + 1) + (k - (n + 1)) = omega arith in
       ap (outcomes_from m s 0) e ∙ outcomes_on s 0 (n + 1) (k - (n + 1)) ∙ ap (λ xs. xs ++ outcomes_from m s (0 + (n + 1)) (k - (n + 1))) (outcomes_more s n)
 
-  -- over the outcomes of one act, by their numbers
-  module _ (os : List S) (i : ℕ) (v w : View S) (before : Joins m (take i os) v true w) where
-    pub all_joined : length os ≤ i → Joins m os v true w
-    all_joined h = subst (λ xs. Joins m xs v true w) (take_all i os h) before
+  -- over the outcomes of one act, of which ys have joined and others are left
+  pub none_joined : (v : View S) → Joins m [] v true v
+  none_joined v = record { lists = λ ts l. l; progress = refl; keeps = keeps_same v }
 
-    pub next_joined : (o : S) (x : View S) (r : Bool) → slice_get os i ≡ Some o → Joins m (o ∷ []) w r x → Joins m (take (i + 1) os) v r x
-    next_joined o x r e h = subst (λ xs. Joins m xs v r x) (sym (take_nth os i o e)) (joins_on (take i os) (o ∷ []) v w x r before h)
+  pub outcome_stopped : (ys : List S) (o : S) (left os : List S) (v w x : View S) → ys ++ o ∷ left ≡ os → Joins m ys v true w → Joins m (o ∷ []) w false x → Joins m os v false x
+  outcome_stopped ys o left os v w x e before h = subst (λ xs. Joins m xs v false x) e (joins_on ys (o ∷ left) v w x false before (joins_stop (o ∷ []) left w x h))
 
-    pub next_stopped : (o : S) (x : View S) → slice_get os i ≡ Some o → Joins m (o ∷ []) w false x → Joins m os v false x
-    next_stopped o x e h = subst (λ xs. Joins m xs v false x) (take-append-drop (i + 1) os) (joins_stop (take (i + 1) os) (drop (i + 1) os) v x (next_joined o x false e h))
+  pub left_on : (ys : List S) (o : S) (left later os : List S) → left ≡ o ∷ later → ys ++ left ≡ os → (ys ++ o ∷ []) ++ later ≡ os
+  left_on ys o left later os e f = append_assoc ys (o ∷ []) later ∙ ap (λ xs. ys ++ xs) (sym e) ∙ f
+
+  pub all_joined : (ys left os : List S) (v w : View S) → left ≡ [] → ys ++ left ≡ os → Joins m ys v true w → Joins m os v true w
+  all_joined ys left os v w e f = subst (λ xs. Joins m xs v true w) (sym (append-nil ys) ∙ sym (ap (λ xs. ys ++ xs) e) ∙ f)
 
   -- over the acts
   module _ (s : S) (a : ℕ) (v w x : View S) (before : Joins m (outcomes_from m s 0 a) v true w) where

@@ -3,11 +3,11 @@ use Rattle.std.proofs.Common.{◌≡◌, ℕ, zero, suc, ◌+◌, ◌-◌, ◌*�
 use Rattle.std.specs.List.{slice_get}
 use Rattle.std.proofs.lemmas.List.{length-take-le}
 use Rattle.std.proofs.lemmas.Bool.{cases_lt}
+use Rattle.std.proofs.lemmas.Option.{slice_get_within}
 use Rattle.planning.specs.Meaning.{Meaning, Lawful}
 use Rattle.planning.specs.Finding.{found, Final}
 use Rattle.planning.specs.Ranks.{within, Ranked, Largest, rank_by, largest}
 use Rattle.planning.proofs.Tests.{clash}
-use Rattle.planning.proofs.Lists.{place_below}
 use Rattle.planning.proofs.Within.{one_rank, within_more}
 use Rattle.planning.proofs.Places.{short_stays}
 use Rattle.planning.proofs.Ranking.{rank_none}
@@ -79,7 +79,7 @@ module _ {S : Type 0} (m : Meaning S) where
         lists = k;
         rows = λ p s at.
             row_level n u f (length ts) ts k refl (ap (λ w. w.units) e) p s at
-            ∙ ap (λ j. Some (row_by m j s)) (level_none (length ts) f p (omega (arith, place_below ts p s at)) (omega arith));
+            ∙ ap (λ j. Some (row_by m j s)) (level_none (length ts) f p (omega (arith, slice_get_within ts p s at)) (omega arith));
       }
 
   ranks_told : RanksTold m
@@ -123,7 +123,7 @@ module _ {S : Type 0} (m : Meaning S) (law : Lawful m) (n r l : ℕ) (final : Fi
         waiting = λ p s h at.
             let z : suc j - 1 ≡ j = omega arith in
             row_level m n u u r (found m r) k final (ap (λ w. w.units) e) p s at
-            ∙ ap (λ q. Some (row_by m q s)) (level_is r u p j (r + i - (p + 1)) (omega (arith, place_below (found m r) p s at)) (omega (arith, place_below (found m r) p s at)) ∙ sym z);
+            ∙ ap (λ q. Some (row_by m q s)) (level_is r u p j (r + i - (p + 1)) (omega (arith, slice_get_within (found m r) p s at)) (omega (arith, slice_get_within (found m r) p s at)) ∙ sym z);
       }
 
   module _ (u : ℕ) (paid : total_units r l ≤ u) where
@@ -147,7 +147,7 @@ module _ {S : Type 0} (m : Meaning S) (law : Lawful m) (n r l : ℕ) (final : Fi
         let a : r * (l + 2) ≡ r * l + r * 2 = mul-add r l 2 in
         let b : suc l * r ≡ l * r + r = suc-mul l r in
         let d : l * r ≡ r * l = mul_comm l r in
-        let below = place_below (found m r) p s at in
+        let below = slice_get_within (found m r) p s at in
         row_level m n u (total_units r l) r (found m r) end_known final (ap (λ w. w.units) end_progress) p s at
         ∙ ap (λ q. Some (row_by m q s)) (level_is r (total_units r l) p (suc l) (r - (p + 1)) (omega arith) (omega arith))
 

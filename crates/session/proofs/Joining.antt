@@ -1,7 +1,7 @@
 -- One state joins the list that a session holds; and joining, one list after another. Assumes nothing.
-use Rattle.std.proofs.Common.{◌≡◌, ℕ, ◌+◌, ◌-◌, ◌<◌, ◌≤◌, min, true, false, cond, List, [], ◌∷◌, ◌++◌, map, length, take, drop, set, Some, None, sym, refl, ap, ◌∙◌, subst, ap₂, inl, inr, arith}
+use Rattle.std.proofs.Common.{◌≡◌, ℕ, ◌+◌, ◌-◌, ◌<◌, ◌≤◌, min, true, false, cond, List, [], ◌∷◌, ◌++◌, map, length, take, drop, set, Some, None, Option, true≢false, sym, refl, ap, ◌∙◌, subst, ap₂, arith}
+use Rattle.std.specs.Option.{is_some}
 use Rattle.std.proofs.lemmas.List.{length-set, length_push, take_more_set, drop-set-lt, drop-drop, take_all, take-append-le, map_push}
-use Rattle.std.proofs.lemmas.Bool.{cases_lt}
 use Rattle.session.specs.declared.plain.Row.{Row}
 use Rattle.planning.specs.Meaning.{Meaning}
 use Rattle.planning.proofs.Seen.{seen_listed, placed_none}
@@ -10,13 +10,6 @@ use Rattle.session.specs.ClosedForm.{row_by}
 use Rattle.session.specs.Views.{View, places}
 use Rattle.session.specs.Calls.{RestKept}
 use Rattle.session.specs.Joins.{Keeps, Lists, Tried, Joins}
-
-pub take_min : {X : Type 0} (xs : List X) (n : ℕ) → take (min (length xs) n) xs ≡ take n xs
-take_min xs n =
-    elim (cases_lt n (length xs)) [
-      | inl h ↦ let e : min (length xs) n ≡ n = omega arith in ap (λ k. take k xs) e
-      | inr h ↦ let e : min (length xs) n ≡ length xs = omega arith in ap (λ k. take k xs) e ∙ take_all (length xs) xs (omega arith) ∙ sym (take_all n xs h)
-    ]
 
 -- sessions over lists as long as before have as many places
 pub same_places : {S : Type 0} (k : ℕ) (v w : View S) → RestKept k v w → places w ≡ places v
@@ -44,6 +37,15 @@ keeps_on v w x a b =
           };
     }
 
+-- an option by what the test of it says
+pub some_is : (o : Option ℕ) → is_some o ≡ true → (p : ℕ) × (o ≡ Some p)
+some_is None e = absurd (true≢false (sym e))
+some_is (Some p) e = (p, refl)
+
+pub none_is : (o : Option ℕ) → is_some o ≡ false → o ≡ None
+none_is None e = refl
+none_is (Some p) e = absurd (true≢false e)
+
 module _ {S : Type 0} (m : Meaning S) (s : S) (v : View S) where
   abbrev pub held : List S
   held = take v.plain.listed v.states
@@ -51,20 +53,21 @@ module _ {S : Type 0} (m : Meaning S) (s : S) (v : View S) where
   held_is : (ts : List S) → Lists m ts v → held ≡ ts
   held_is ts l = ap (λ n. take n v.states) l.count ∙ l.states_are
 
-  pub join_there : (p : ℕ) → place_of m held s ≡ Some p → Joins m (s ∷ []) v true v
-  join_there p e =
+  pub join_there : is_some (place_of m held s) ≡ true → Joins m (s ∷ []) v true v
+  join_there e =
       record {
-        lists = λ ts l. let h : listed m ts s ≡ true = ap (λ xs. listed m xs s) (sym (held_is ts l)) ∙ seen_listed m s 0 held p e in
+        lists = λ ts l. let p = some_is (place_of m held s) e in
+            let h : listed m ts s ≡ true = ap (λ xs. listed m xs s) (sym (held_is ts l)) ∙ seen_listed m s 0 held p.0 p.1 in
             let j : joined m ts s ≡ ts = ap (λ b. cond b ts (ts ++ s ∷ [])) h in
             subst (λ xs. Lists m xs v) (sym j) l;
         progress = refl;
         keeps = keeps_same v;
       }
 
-  joins_end : (ts : List S) → Lists m ts v → place_of m held s ≡ None → joined m ts s ≡ ts ++ s ∷ []
-  joins_end ts l e = ap (λ b. cond b ts (ts ++ s ∷ [])) (ap (λ xs. listed m xs s) (sym (held_is ts l)) ∙ placed_none m s 0 held e)
+  joins_end : (ts : List S) → Lists m ts v → is_some (place_of m held s) ≡ false → joined m ts s ≡ ts ++ s ∷ []
+  joins_end ts l e = ap (λ b. cond b ts (ts ++ s ∷ [])) (ap (λ xs. listed m xs s) (sym (held_is ts l)) ∙ placed_none m s 0 held (none_is (place_of m held s) e))
 
-  pub join_full : place_of m held s ≡ None → v.plain.listed ≡ places v → Joins m (s ∷ []) v false v
+  pub join_full : is_some (place_of m held s) ≡ false → v.plain.listed ≡ places v → Joins m (s ∷ []) v false v
   join_full e f =
       record {
         lists = λ ts l. let j = joins_end ts l e in
@@ -80,7 +83,7 @@ module _ {S : Type 0} (m : Meaning S) (s : S) (v : View S) where
     abbrev pub grown : View S
     grown = record { states = set v.states v.plain.listed s; rows = set v.rows v.plain.listed row; plain = record { listed = v.plain.listed + 1; progress = v.plain.progress; walk = v.plain.walk } }
 
-    pub join_new : place_of m held s ≡ None → v.plain.listed < places v → row ≡ row_by m 0 s → Joins m (s ∷ []) v true grown
+    pub join_new : is_some (place_of m held s) ≡ false → v.plain.listed < places v → row ≡ row_by m 0 s → Joins m (s ∷ []) v true grown
     join_new e f q =
         record {
           lists = λ ts l. subst (λ xs. Lists m xs grown) (sym (joins_end ts l e)) (now_lists ts l);

@@ -1,7 +1,6 @@
 -- Calls made one after another, as a list of calls. Assumes nothing.
 use Rattle.std.proofs.Common.{◌≡◌, ℕ, zero, suc, ◌+◌, ◌<◌, ◌≤◌, Bool, List, [], ◌∷◌, ◌++◌, length, get_or, take, drop, set, Some, Result, sym, refl, ap, ◌∙◌, subst, arith}
 use Rattle.std.specs.List.{slice_get}
-use Rattle.std.proofs.lemmas.Option.{slice_get-get_or}
 use Rattle.std.proofs.lemmas.List.{length-map, map-set, take_more, take_more_set, drop-set-lt}
 use Rattle.planning.specs.Meaning.{Meaning}
 use Rattle.session.specs.declared.plain.Row.{Row}
@@ -14,14 +13,13 @@ use Rattle.session.specs.declared.calls.Call.{Call}
 use Rattle.session.specs.declared.calls.Answer.{Answer}
 use Rattle.session.specs.Views.{View}
 use Rattle.session.specs.Calls.{Made, Worked, Asked}
-use Rattle.session.specs.Walks.{Post, Started, Stepped}
+use Rattle.session.specs.Walks.{Post, Started, Stepped, post_of}
 use Rattle.session.specs.Histories.{Event, History, called}
 use Rattle.session.specs.Replays.{posts_of, Benchless, Taken, CallMade, Replayed, Replay}
 
 module _ {S K : Type 0} (m : Meaning S) (stands : K → S) (fit : K → Bool) (v : View S) (c : Call S) where
-  -- a bench by its meaning
   abbrev post : K → Post S
-  post k = record { state = stands k; ready = fit k }
+  post = post_of stands fit
 
   post_at : (ks : List K) (i : ℕ) (k : K) → slice_get ks i ≡ Some k → slice_get (posts_of stands fit ks) i ≡ Some (post k)
   post_at [] i k e = absurd (let z : ◌≡◌ {A = ℕ} 0 1 = cc in omega arith)
@@ -38,13 +36,10 @@ module _ {S K : Type 0} (m : Meaning S) (stands : K → S) (fit : K → Bool) (v
     pub made_ask : (s : S) (r : Result Row AskStop) → c ≡ Call.Ask s → Asked m s v r v → CallMade m ps v c (Answer.Asked r) ps v
     made_ask s r e d = subst (λ x. CallMade m ps v x (Answer.Asked r) ps v) (sym e) (CallMade.event (Event.asked s r) Taken.ask d)
 
-    module _ (i : ℕ) (d : K) (low : i < length ks) where
-      -- the bench that the call names
-      abbrev k : K
-      k = get_or ks i d
-
+    -- the bench that the call names
+    module _ (i : ℕ) (k : K) (named : slice_get ks i ≡ Some k) where
       there : slice_get ps i ≡ Some (post k)
-      there = post_at ks i k (slice_get-get_or ks i d low)
+      there = post_at ks i k named
 
       pub made_start : (r : Result ℕ StartStop) (v' : View S) → c ≡ Call.Start i → Started m (post k) v r v' → CallMade m ps v c (Answer.Started r) ps v'
       made_start r v' e h = subst (λ x. CallMade m ps v x (Answer.Started r) ps v') (sym e) (CallMade.event (Event.started (post k) r) (Taken.start there) h)

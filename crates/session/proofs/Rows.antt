@@ -5,11 +5,12 @@ use mathlib.Core.Path.{fun_ext}
 use mathlib.Core.List.{Memᴰ}
 use Rattle.std.specs.List.{slice_get}
 use Rattle.std.proofs.lemmas.Bool.{cases_lt}
+use Rattle.std.proofs.lemmas.Option.{slice_get_within}
 use Rattle.planning.specs.Meaning.{Meaning, Lawful}
 use Rattle.planning.specs.Finding.{found, place_of}
 use Rattle.planning.specs.Ranks.{every, some_of, first_act, within, Ranked, Lowest, ActGiven, rank_next, rank_by, act_of, largest}
 use Rattle.planning.proofs.Tests.{clash, and_parts}
-use Rattle.planning.proofs.Lists.{every_at, place_below}
+use Rattle.planning.proofs.Lists.{every_at}
 use Rattle.planning.proofs.Within.{within_alike, brings_alike, ranked_alike}
 use Rattle.planning.proofs.Deepest.{rank_stays, deepest_most}
 use Rattle.planning.proofs.Bridges.{ranked_some, ranked_none}
@@ -65,7 +66,7 @@ module _ {S : Type 0} (m : Meaning S) (n u : ℕ) (c : Settled m n u) where
 
   row_there : (p : ℕ) (s : S) → slice_get (known m n u) p ≡ Some s → slice_get (known_rows m n u) p ≡ Some (row_by m last s)
   row_there p s e =
-      let below : p < r = omega (arith, place_below (known m n u) p s e, known_count) in
+      let below : p < r = omega (arith, slice_get_within (known m n u) p s e, known_count) in
       let z : 0 + p ≡ p = omega arith in
       ap₂ (λ k w. slice_get (rows_from m k w 0 (known m n u)) p) known_count (ap (λ x. x.units) (settled_progress m n u c))
       ∙ rows_at m r (total m r) 0 (known m n u) p s e

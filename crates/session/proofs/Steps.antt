@@ -3,7 +3,7 @@ use Rattle.std.proofs.Common.{◌≡◌, ℕ, suc, ◌+◌, ◌-◌, ◌*◌, �
 use native.Mathlib.Nat.{mul-mod_right, mul-lt-mul_of_pos_left}
 use lib.Seq.{take-set-lt}
 use Rattle.std.specs.List.{slice_get}
-use Rattle.std.proofs.lemmas.Option.{slice_get-get_or}
+use Rattle.std.proofs.lemmas.Option.{slice_get-get_or, slice_get_within}
 use Rattle.std.proofs.lemmas.Nat.{div-add-mod', le-div, mod-mul-add, div_below, mul-le}
 use Rattle.std.proofs.lemmas.List.{length-set, length-take-le, drop-set-lt}
 use Rattle.std.proofs.lemmas.Bool.{cases_lt, cases_eq, eq-eqb, ne_eqb}
@@ -14,7 +14,7 @@ use Rattle.planning.specs.Meaning.{Meaning, Lawful}
 use Rattle.planning.specs.Finding.{expanded, joined_all, outcomes_from, found}
 use Rattle.planning.specs.Ranks.{within, largest, rank_by, gains}
 use Rattle.planning.proofs.Tests.{holds, clash}
-use Rattle.planning.proofs.Lists.{place_below, nth_take}
+use Rattle.planning.proofs.Lists.{nth_take}
 use Rattle.planning.proofs.Places.{start_first}
 use Rattle.planning.proofs.Deepest.{deepest_most, deepest_each, deepest_end, rank_stays}
 use Rattle.session.specs.ClosedForm.{row_by, rows_from, standing_of, settle, progress, known}
@@ -158,7 +158,7 @@ module _ {S : Type 0} (m : Meaning S) (law : Lawful m) (v : View S) (u r : ℕ) 
 
   levels : (p : ℕ) (t : S) → slice_get (found m r) p ≡ Some t → row_below (suc j) (slice_get v.rows p) ≡ within m j t
   levels p t e =
-      let l : p < r = omega (arith, place_below (found m r) p t e, sw.ends) in
+      let l : p < r = omega (arith, slice_get_within (found m r) p t e, sw.ends) in
       ap (row_below (suc j)) (row_at p t l e)
       ∙ elim (cases_lt p i) [
         | inl b ↦ ap (λ k. row_below (suc j) (Some (row_by m k t))) (level_before r u j i split low p b) ∙ below_next m j t

@@ -2,9 +2,9 @@
 use Rattle.std.proofs.Common.{◌≡◌, ℕ, zero, suc, ◌+◌, ◌<◌, ◌≤◌, min, Bool, true, false, cond, T, List, length, take, is_err, IsErrAnd, Some, None, Ok, Err, Option, Result, sym, refl, ap, ◌∙◌, subst, ap₂, arith, length-take}
 use Rattle.std.specs.List.{slice_get}
 use Rattle.std.specs.Option.{ok_or}
+use Rattle.std.proofs.lemmas.Option.{slice_get_within}
 use Rattle.session.specs.declared.plain.Row.{Row}
 use Rattle.session.specs.declared.plain.Walk.{Walk}
-use Rattle.session.specs.declared.plain.Standing.TheVariants.{Working, Full}
 use Rattle.session.specs.declared.stops.AskStop.{AskStop}
 use Rattle.session.specs.declared.stops.StartStop.{StartStop}
 use Rattle.session.specs.declared.stops.StepStop.{StepStop}
@@ -15,12 +15,12 @@ use Rattle.planning.specs.Meaning.{Meaning, Lawful}
 use Rattle.planning.specs.Finding.{place_of, found}
 use Rattle.planning.specs.Ranks.{some_of, Ranked, Lowest, rank_by, act_of}
 use Rattle.planning.proofs.Tests.{so, clash}
-use Rattle.planning.proofs.Lists.{none_some, place_below}
+use Rattle.planning.proofs.Lists.{none_some}
 use Rattle.planning.proofs.Within.{ranked_alike}
 use Rattle.session.specs.ClosedForm.{progress, row_by, known}
 use Rattle.session.specs.Views.{View, places, row_at, rank_in, act_in, row_told, with_rank, ranked_at, ranked_place}
 use Rattle.session.specs.Stops.{carry_number, step_stop}
-use Rattle.session.specs.Calls.{Stands, WalkKept, row_of, ask_answer}
+use Rattle.session.specs.Calls.{Stands, WalkKept, row_of, conclusion, ask_answer}
 use Rattle.session.specs.Walks.{Post, Carries, Carried, ranked_answer, start_answer, OnlyWalk, Started, step_at, step_case, StepKept}
 use Rattle.planning.proofs.Lists.{nth_take}
 use Rattle.session.proofs.Asking.{states_known, row_known, told_known, ask_concluded}
@@ -28,12 +28,6 @@ use Rattle.session.proofs.Settling.{Settled, settled_from}
 use Rattle.session.proofs.Rows.{last, Stood, stood, row_same, row_own, rank_own, rank_told}
 use Rattle.session.proofs.Onward.{next, usable, lands}
 use Rattle.session.proofs.Histories.{walked}
-
-pub acted_refuses : (a k : ℕ) (e : StepStop) → ◌≡◌ {A = Result Step StepStop} (Ok (Acted a k)) (Err e) → ⊥
-acted_refuses a k e q = let z : ◌≡◌ {A = ℕ} 0 1 = cc in omega arith
-
-pub acted_goal : (a k : ℕ) → ◌≡◌ {A = Result Step StepStop} (Ok (Acted a k)) (Ok Goal) → ⊥
-acted_goal a k q = let z : ◌≡◌ {A = ℕ} 0 1 = cc in omega arith
 
 -- what `?` makes of a bench's refusal
 pub refusal : (r : Result Step StepStop) (e : CarryStop) → is_err r ≡ true → IsErrAnd r (λ x. x ≡ step_stop e) → r ≡ Err (step_stop e)
@@ -63,21 +57,18 @@ module _ {S : Type 0} (m : Meaning S) (v : View S) where
   same_walk = record { states = refl; rows = refl; listed = refl; progress = refl }
 
   -- a start at a session that is neither working nor full
-  module _ (b : Post S) (ended : v.plain.progress.standing ≡ Working → ⊥) (fits : (f : ℕ) → v.plain.progress.standing ≡ Full f → ⊥) where
+  module _ (b : Post S) (ended : conclusion v.plain.progress.standing ≡ Ok tt) where
     abbrev answer : Result ℕ StartStop
     answer = start_answer (ask_answer v.plain.progress.standing (row_told m v b.state))
 
     by_row : (o : Option Row) → row_told m v b.state ≡ o → answer ≡ start_answer (ok_or o AskStop.Unlisted)
-    by_row o e = ap start_answer (sym (ask_concluded v.plain.progress.standing (row_told m v b.state) ended fits) ∙ ap (λ x. ok_or x AskStop.Unlisted) e)
+    by_row o e = ap start_answer (sym (ask_concluded v.plain.progress.standing (row_told m v b.state) ended) ∙ ap (λ x. ok_or x AskStop.Unlisted) e)
 
     stood_answer : (r : Result ℕ StartStop) → answer ≡ r → (u : ℕ) → Stands m u v → r ≡ start_answer (ask_answer (progress m (places v) u).standing (row_of m (places v) u b.state))
     stood_answer r e u h = sym e ∙ ap start_answer (ap₂ ask_answer (ap (λ p. p.standing) h.progress_is) (told_known m v u h b.state))
 
     refused : (e : StartStop) → answer ≡ Err e → Started m b v (Err e) v
     refused e q = record { answer = stood_answer (Err e) q; walk = λ u h. refl; rest = same_walk }
-
-    pub start_unlisted : row_told m v b.state ≡ None → Started m b v (Err StartStop.Unlisted) v
-    start_unlisted e = refused StartStop.Unlisted (by_row None e)
 
     pub start_blank : (row : Row) → row_told m v b.state ≡ Some row → row.rank ≡ None → Started m b v (Err StartStop.Blank) v
     start_blank row e q = refused StartStop.Blank (by_row (Some row) e ∙ ap ranked_answer q)
@@ -118,19 +109,13 @@ module _ {S : Type 0} (m : Meaning S) (law : Lawful m) (v : View S) (w : Walk) (
   ranked = kept.1.1.1.1.0
 
   below : w.place < length (known m n u)
-  below = place_below (known m n u) w.place here at
+  below = slice_get_within (known m n u) w.place here at
 
   state_there : slice_get v.states w.place ≡ Some here
   state_there = sym (nth_take (length (known m n u)) v.states w.place below) ∙ ap (λ xs. slice_get xs w.place) h.states_are ∙ at
 
   row_there : (o : S) → T (m.same here o) → slice_get v.rows w.place ≡ Some (row_by m (last m n u c) o)
   row_there o e = row_known m v u h w.place below ∙ row_same m law n u c o w.place here at e
-
-  pub state_listed : slice_get v.states w.place ≡ None → ⊥
-  state_listed e = none_some e state_there
-
-  pub row_listed : slice_get v.rows w.place ≡ None → ⊥
-  row_listed e = none_some e (row_there here (law.reflexive here))
 
   module _ (b : Post S) where
     case_there : step_case m n u (Some w) b ≡ step_at m (Some here) b
@@ -142,12 +127,6 @@ module _ {S : Type 0} (m : Meaning S) (law : Lawful m) (v : View S) (w : Walk) (
 
     leaves : (r : Result Step StepStop) (b' : Post S) (v' : View S) → StepKept m u v b r b' v' (Some w) v'.plain.walk → Leaves r b' v'
     leaves r b' v' k = subst (λ x. StepKept m u v b r b' v' x v'.plain.walk) (sym is) k
-
-    pub step_elsewhere : (s : S) → slice_get v.states w.place ≡ Some s → m.same s b.state ≡ false → Leaves (Err StepStop.Elsewhere) b v
-    step_elsewhere s e f =
-        let z : here ≡ s = let q : Some here ≡ Some s = sym state_there ∙ e in cc in
-        let no : m.same here b.state ≡ false = ap (λ x. m.same x b.state) z ∙ f in
-        leaves (Err StepStop.Elsewhere) b v (sym (case_there ∙ ap (λ x. cond x (cond (m.goal here) 0 (cond b.ready 1 15)) 14) no), (refl, refl))
 
     -- the bench is where the walk is
     module _ (s : S) (e : slice_get v.states w.place ≡ Some s) (t : T (m.same s b.state)) where

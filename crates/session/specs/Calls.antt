@@ -63,6 +63,13 @@ module _ {S : Type 0} (m : Meaning S) where
   abbrev pub row_of : ℕ → ℕ → S → Option Row
   row_of n u s = row_at (known_rows m n u) (place_of m (known m n u) s)
 
+-- what asking whether the search went to its end answers, where it stands so
+abbrev pub conclusion : Standing → Result (Unit {0}) AskStop
+conclusion Working = Err AskStop.Working
+conclusion (Full f) = Err AskStop.Full
+conclusion NoPlan = Ok tt
+conclusion (Found d) = Ok tt
+
 -- what ask answers of a row, or of none, where the search stands so
 abbrev pub ask_answer : Standing → Option Row → Result Row AskStop
 ask_answer Working r = Err AskStop.Working

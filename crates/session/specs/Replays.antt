@@ -12,12 +12,12 @@ use Rattle.session.specs.declared.calls.Call.{Call}
 use Rattle.session.specs.declared.calls.Answer.{Answer}
 use Rattle.session.specs.Views.{View}
 use Rattle.session.specs.Calls.{Made}
-use Rattle.session.specs.Walks.{Post}
+use Rattle.session.specs.Walks.{Post, post_of}
 use Rattle.session.specs.Histories.{Event, Did, History}
 
 -- benches by their meaning
 abbrev pub posts_of : {K S : Type 0} → (K → S) → (K → Bool) → List K → List (Post S)
-posts_of stands fit ks = map (λ k. record { state = stands k; ready = fit k }) ks
+posts_of stands fit ks = map (post_of stands fit) ks
 
 -- a call that names no bench of the list
 abbrev pub Benchless : {S : Type 0} → Call S → List (Post S) → Type 0

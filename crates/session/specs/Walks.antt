@@ -23,6 +23,10 @@ pub record Post (S : Type 0) : Type 0 where
   pub state : S
   pub ready : Bool
 
+-- what a bench means, by the functions that tell its state and whether it is ready
+abbrev pub post_of : {K S : Type 0} → (K → S) → (K → Bool) → K → Post S
+post_of stands fit k = record { state = stands k; ready = fit k }
+
 -- what an act adds to the acts done: each counts as one
 abbrev pub cost : ℕ → ℕ
 cost a = 1

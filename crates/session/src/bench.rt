@@ -2,7 +2,7 @@
 
 ghost use Rattle.std.specs.Prelude.{◌≡◌, Bool, Err};
 ghost use Rattle.session.specs.Stops.{carry_number};
-ghost use Rattle.session.specs.Walks.{Carried};
+ghost use Rattle.session.specs.Walks.{Carried, post_of};
 ghost use Rattle.session.specs.declared.stops.CarryStop.{CarryStop};
 
 use crate::stops::CarryStop;
@@ -12,7 +12,7 @@ use planning::Book;
 /// choosing.
 ///
 /// Its meaning is the state that it stands in and whether it is ready, both told without change. Each call is given the
-/// book.
+/// book. An impl whose `carry` promises more says these clauses too, as the language has it.
 pub trait Bench<B: Book> {
     // The state that the bench stands in.
     ghost stands: { Self → B.State };
@@ -32,6 +32,6 @@ pub trait Bench<B: Book> {
     /// may have changed. Refused where the bench is not ready, then where the act is not applicable in its state;
     /// nothing has changed then.
     fn carry(&mut self, book: &B, act: u8) -> Result<(), CarryStop>
-        ensures carried { Carried (B.meaning book.now) (record { state = stands self.old; ready = fit book.now self.old }) act (carry_number result) (record { state = stands self.new; ready = fit book.now self.new }) }
+        ensures carried { Carried (B.meaning book.now) (post_of stands (fit book.now) self.old) act (carry_number result) (post_of stands (fit book.now) self.new) }
         ensures refused { (e : CarryStop) → result ≡ Err e → self.new ≡ self.old };
 }

@@ -4,7 +4,7 @@ use crate::plain::{Progress, Row};
 use crate::stops::{AskStop, StartStop, StepStop};
 
 /// What a step that was not refused did.
-#[derive(Clone, Copy)]
+#[derive(Clone, Copy, Debug, PartialEq, Eq)]
 pub enum Step {
     /// The walk had come to a goal: nothing was done.
     Goal,
@@ -13,7 +13,7 @@ pub enum Step {
 }
 
 /// A call on a session; start and step name their bench by its number, from 0.
-#[derive(Clone, Copy)]
+#[derive(Clone, Copy, Debug, PartialEq, Eq)]
 pub enum Call<S> {
     /// Work for that quota of units.
     Work(u32),
@@ -26,7 +26,7 @@ pub enum Call<S> {
 }
 
 /// What a call answered.
-#[derive(Clone, Copy)]
+#[derive(Clone, Copy, Debug, PartialEq, Eq)]
 pub enum Answer {
     /// The answer of work.
     Worked(Progress),

@@ -8,15 +8,17 @@ ghost use Rattle.session.specs.Units.{Moves};
 ghost use Rattle.session.specs.Views.{SameLists, view};
 
 use crate::lists::Session;
-use crate::plain::{Progress, Row, standing_if};
-use planning::Book;
+use crate::plain::{Progress, Row, Standing};
+use planning::{Book, Outcomes};
 
 // The row with which a state joins: rank 0 if it is a goal, else blank.
 pub(crate) fn fresh_row<B: Book>(book: &B, s: B::State) -> Row
     ensures { result ≡ row_by (B.meaning book.now) 0 s }
 {
-    let rank = if book.goal(s) { Some(0) } else { None };
-    Row { rank, act: None }
+    Row {
+        rank: book.goal(s).then_some(0),
+        act: None,
+    }
 }
 
 impl<'a, S: Copy> Session<'a, S> {
@@ -29,7 +31,7 @@ impl<'a, S: Copy> Session<'a, S> {
         if listed > self.places() {
             return false;
         }
-        if let Some(_) = self.place(book, s) {
+        if self.place(book, s).is_some() {
             return true;
         }
         if listed == self.places() {
@@ -46,14 +48,9 @@ impl<'a, S: Copy> Session<'a, S> {
         ensures joins { Joins (B.meaning book.now) ((B.meaning book.now).outcomes s act) (view self.old) result (view self.new) }
         ensures lent { SameLists self.old self.new }
     {
-        for number in 0..8 {
-            match book.outcome(s, act, number) {
-                Some(o) => {
-                    if !self.join(book, o) {
-                        return false;
-                    }
-                }
-                None => return true,
+        for o in Outcomes::new(book, s, act) {
+            if !self.join(book, o) {
+                return false;
             }
         }
         true
@@ -64,6 +61,7 @@ impl<'a, S: Copy> Session<'a, S> {
         ensures joins { Joins (B.meaning book.now) (outcomes_from (B.meaning book.now) s 0 (B.meaning book.now).acts) (view self.old) result (view self.new) }
         ensures lent { SameLists self.old self.new }
     {
+        // Not by `all`: a proof knows nothing of what a closure has changed, here the session.
         for act in 0..book.acts() {
             if !self.join_outcomes(book, s, act) {
                 return false;
@@ -85,7 +83,11 @@ impl<'a, S: Copy> Session<'a, S> {
             return;
         };
         let fits = self.expand(book, s);
-        let standing = standing_if(fits, units + 1);
+        let standing = if fits {
+            Standing::Working
+        } else {
+            Standing::Full(units + 1)
+        };
         self.record.progress = Progress {
             standing,
             units: units + 1,

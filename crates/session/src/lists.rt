@@ -16,20 +16,18 @@ use planning::{Book, find};
 /// the call still ends and writes only its session, and its answer is free.
 #[derive(Drop)]
 pub struct Session<'a, S> {
+    // Two lists and a count, and not one list that grows: the caller lends all memory, and lends it so. That a call
+    // keeps both loans is a clause of each call that writes (`lent`): it ties two sessions together, which no type does.
     pub(crate) states: &'a mut [S],
     pub(crate) rows: &'a mut [Row],
     pub(crate) record: Record,
 }
 
-// The element at i.
-fn item<T: Copy>(items: &[T], i: usize) -> Option<T>
-    ensures { result ≡ slice_get items.now i }
+// The first n elements, or all if there are fewer.
+fn front<T>(items: &[T], n: usize) -> &[T]
+    ensures { result.now ≡ take n items.now }
 {
-    if i < items.len() {
-        Some(items[i])
-    } else {
-        None
-    }
+    &items[..items.len().min(n)]
 }
 
 impl<'a, S: Copy> Session<'a, S> {
@@ -44,16 +42,14 @@ impl<'a, S: Copy> Session<'a, S> {
     pub fn states(&self) -> &[S]
         ensures { result.now ≡ take (view self.now).plain.listed (view self.now).states }
     {
-        let n = self.states.len().min(self.record.listed as usize);
-        &self.states[0..n]
+        front(self.states, usize::from(self.record.listed))
     }
 
     /// The rows of the listed states.
     pub fn rows(&self) -> &[Row]
         ensures { result.now ≡ take (view self.now).plain.listed (view self.now).rows }
     {
-        let n = self.rows.len().min(self.record.listed as usize);
-        &self.rows[0..n]
+        front(self.rows, usize::from(self.record.listed))
     }
 
     // The number of places that the session can use.
@@ -74,23 +70,20 @@ impl<'a, S: Copy> Session<'a, S> {
     pub(crate) fn state(&self, i: usize) -> Option<S>
         ensures { result ≡ slice_get self.now.states.now i }
     {
-        item(self.states, i)
+        self.states.get(i).copied()
     }
 
     // The row at place i.
     pub(crate) fn row(&self, i: usize) -> Option<Row>
         ensures { result ≡ slice_get self.now.rows.now i }
     {
-        item(self.rows, i)
+        self.rows.get(i).copied()
     }
 
     // The row of the first listed place whose state is the same as s.
     pub(crate) fn row_of<B: Book<State = S>>(&self, book: &B, s: S) -> Option<Row>
         ensures { result ≡ row_told (B.meaning book.now) (view self.now) s }
     {
-        match self.place(book, s) {
-            Some(p) => self.row(p),
-            None => None,
-        }
+        self.row(self.place(book, s)?)
     }
 }

@@ -26,17 +26,17 @@ impl<'a, S: Copy> Session<'a, S> {
         match call {
             Call::Work(quota) => Answer::Worked(self.work(book, quota)),
             Call::Ask(s) => Answer::Asked(self.ask(book, s)),
-            Call::Start(k) => {
-                if k >= benches.len() {
-                    return Answer::NoBench;
-                }
-                Answer::Started(self.start(book, &benches[k]))
-            }
+            Call::Start(k) => match benches.get(k) {
+                Some(bench) => Answer::Started(self.start(book, bench)),
+                None => Answer::NoBench,
+            },
+            // By its place, since a proof knows no element of a list once `get_mut` has lent one.
             Call::Step(k) => {
-                if k >= benches.len() {
-                    return Answer::NoBench;
+                if k < benches.len() {
+                    Answer::Stepped(self.step(book, &mut benches[k]))
+                } else {
+                    Answer::NoBench
                 }
-                Answer::Stepped(self.step(book, &mut benches[k]))
             }
         }
     }
@@ -68,6 +68,7 @@ pub fn replay<B: Book, K: Bench<B>>(
         record,
     };
     let count = calls.len().min(answers.len());
+    // By places, since a proof knows no element of a list that `iter_mut` has lent.
     for i in 0..count {
         answers[i] = session.call(book, calls[i], benches);
     }

@@ -1,10 +1,13 @@
 //! Why a call was refused.
 
-ghost use Rattle.std.specs.Prelude.{◌≡◌};
-ghost use Rattle.session.specs.Stops.{step_stop};
+ghost use Rattle.std.specs.Prelude.{◌≡◌, Some};
+ghost use Rattle.session.specs.Stops.{start_stop, start_text, step_stop, step_text};
+
+use std::error::Error;
+use std::fmt;
 
 /// Why an ask was refused.
-#[derive(Clone, Copy)]
+#[derive(Clone, Copy, Debug, PartialEq, Eq)]
 pub enum AskStop {
     /// The search has not ended.
     Working,
@@ -15,7 +18,7 @@ pub enum AskStop {
 }
 
 /// Why a start was refused.
-#[derive(Clone, Copy)]
+#[derive(Clone, Copy, Debug, PartialEq, Eq)]
 pub enum StartStop {
     /// The search has not ended.
     Working,
@@ -28,7 +31,7 @@ pub enum StartStop {
 }
 
 /// Why a step was refused.
-#[derive(Clone, Copy)]
+#[derive(Clone, Copy, Debug, PartialEq, Eq)]
 pub enum StepStop {
     /// There is no walk.
     NoWalk,
@@ -41,12 +44,25 @@ pub enum StepStop {
 }
 
 /// Why a bench did not carry an act out.
-#[derive(Clone, Copy)]
+#[derive(Clone, Copy, Debug, PartialEq, Eq)]
 pub enum CarryStop {
     /// The bench is not ready.
     NotReady,
     /// The act is not applicable in the bench's state.
     NotApplicable,
+}
+
+/// A start is refused where an ask of the bench's state would be, for the same reason.
+impl From<AskStop> for StartStop {
+    ghost from_gives = { λ e r. r ≡ start_stop e };
+
+    fn from(value: AskStop) -> StartStop {
+        match value {
+            AskStop::Working => StartStop::Working,
+            AskStop::Full => StartStop::Full,
+            AskStop::Unlisted => StartStop::Unlisted,
+        }
+    }
 }
 
 /// A step is refused where its bench refuses to carry the act out, for the same reason.
@@ -60,3 +76,54 @@ impl From<CarryStop> for StepStop {
         }
     }
 }
+
+impl fmt::Display for StartStop {
+    ghost output = { λ e. Some (start_text e) };
+
+    fn fmt<W: fmt::Write>(&self, f: &mut fmt::Formatter<W>) -> fmt::Result {
+        f.write_str(match self {
+            StartStop::Working => "still working: stop 9",
+            StartStop::Full => "full: stop 10",
+            StartStop::Unlisted => "not listed: stop 11",
+            StartStop::Blank => "no rank there: stop 12",
+        })
+    }
+}
+
+impl fmt::Display for StepStop {
+    ghost output = { λ e. Some (step_text e) };
+
+    fn fmt<W: fmt::Write>(&self, f: &mut fmt::Formatter<W>) -> fmt::Result {
+        f.write_str(match self {
+            StepStop::NoWalk => "no walk: stop 13",
+            StepStop::Elsewhere => "the bench is elsewhere: stop 14",
+            StepStop::NotReady => "the bench is not ready: stop 15",
+            StepStop::NotApplicable => "not applicable: stop 16",
+        })
+    }
+}
+
+// The next two are alike in one line each; there is no impl for all types that turn into one that prints.
+impl fmt::Display for AskStop {
+    ghost output = { λ e. Some (start_text (start_stop e)) };
+
+    fn fmt<W: fmt::Write>(&self, f: &mut fmt::Formatter<W>) -> fmt::Result {
+        StartStop::from(*self).fmt(f)
+    }
+}
+
+impl fmt::Display for CarryStop {
+    ghost output = { λ e. Some (step_text (step_stop e)) };
+
+    fn fmt<W: fmt::Write>(&self, f: &mut fmt::Formatter<W>) -> fmt::Result {
+        StepStop::from(*self).fmt(f)
+    }
+}
+
+impl Error for AskStop {}
+
+impl Error for StartStop {}
+
+impl Error for StepStop {}
+
+impl Error for CarryStop {}

@@ -8,20 +8,14 @@ ghost use Rattle.session.specs.Units.{Moves, outlook};
 ghost use Rattle.session.specs.Views.{SameLists, view};
 
 use crate::lists::Session;
-use crate::plain::{Progress, Row, Standing, rank_below, rank_is, standing_of};
-use planning::Book;
+use crate::plain::{Progress, Row, Standing};
+use planning::{Book, Outcomes};
 
 // Whether some row has rank j.
 fn some_rank(rows: &[Row], j: u16) -> bool
     ensures { result ≡ has_rank j rows.now }
 {
-    for i in 0..rows.len() {
-        let row = rows[i];
-        if rank_is(row.rank, j) {
-            return true;
-        }
-    }
-    false
+    rows.iter().any(|row| row.rank == Some(j))
 }
 
 impl<'a, S: Copy> Session<'a, S> {
@@ -29,39 +23,24 @@ impl<'a, S: Copy> Session<'a, S> {
     fn below<B: Book<State = S>>(&self, book: &B, s: S, j: u16) -> bool
         ensures { result ≡ told (B.meaning book.now) (view self.now) j s }
     {
-        match self.row_of(book, s) {
-            Some(row) => rank_below(row.rank, j),
-            None => false,
-        }
+        self.row_of(book, s)
+            .and_then(|row| row.rank)
+            .is_some_and(|rank| rank < j)
     }
 
     // Whether the act is applicable in s and has only outcomes of rank below j.
     fn allows<B: Book<State = S>>(&self, book: &B, s: S, act: u8, j: u16) -> bool
         ensures { result ≡ brings (B.meaning book.now) (told (B.meaning book.now) (view self.now) j) s act }
     {
-        for number in 0..8 {
-            match book.outcome(s, act, number) {
-                Some(o) => {
-                    if !self.below(book, o, j) {
-                        return false;
-                    }
-                }
-                None => return number > 0,
-            }
-        }
-        true
+        let mut outcomes = Outcomes::new(book, s, act);
+        book.outcome(s, act, 0).is_some() && outcomes.all(|o| self.below(book, o, j))
     }
 
     // The lowest act that brings s to ranks below j.
     fn judge<B: Book<State = S>>(&self, book: &B, s: S, j: u16) -> Option<u8>
         ensures { result ≡ choice (B.meaning book.now) (view self.now) j s }
     {
-        for act in 0..book.acts() {
-            if self.allows(book, s, act, j) {
-                return Some(act);
-            }
-        }
-        None
+        (0..book.acts()).find(|act| self.allows(book, s, *act, j))
     }
 
     // Gives place i the rank j if its row is blank and ranks below j allow it.
@@ -71,13 +50,10 @@ impl<'a, S: Copy> Session<'a, S> {
         ensures plain { self.new.«record» ≡ self.old.«record» }
         ensures lent { SameLists self.old self.new }
     {
-        let Some(s) = self.state(i) else {
+        let (Some(s), Some(row)) = (self.state(i), self.row(i)) else {
             return;
         };
-        let Some(row) = self.row(i) else {
-            return;
-        };
-        if let Some(_) = row.rank {
+        if row.rank.is_some() {
             return;
         }
         if let Some(act) = self.judge(book, s, j) {
@@ -92,8 +68,8 @@ impl<'a, S: Copy> Session<'a, S> {
     fn verdict(&self) -> Standing
         ensures { result ≡ standing_by (slice_get self.now.rows.now 0) }
     {
-        match self.row(0) {
-            Some(row) => standing_of(row.rank),
+        match self.row(0).and_then(|row| row.rank) {
+            Some(depth) => Standing::Found(depth),
             None => Standing::NoPlan,
         }
     }
@@ -119,13 +95,12 @@ impl<'a, S: Copy> Session<'a, S> {
         if r == 0 || units == u32::MAX {
             return;
         }
-        let j = units / r;
-        if j > 65535 {
+        let Ok(j) = u16::try_from(units / r) else {
             return;
-        }
+        };
         let ends = (units + 1) % r == 0;
-        self.visit(book, (units % r) as usize, j as u16);
-        let standing = self.outlook(j as u16, ends);
+        self.visit(book, (units % r) as usize, j);
+        let standing = self.outlook(j, ends);
         self.record.progress = Progress {
             standing,
             units: units + 1,

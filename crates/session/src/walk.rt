@@ -2,7 +2,7 @@
 
 ghost use Rattle.std.specs.Prelude.{◌≡◌, Ok, Err};
 ghost use Rattle.session.specs.Views.{SameLists, ranked_place, view};
-ghost use Rattle.session.specs.Walks.{Started, Stepped};
+ghost use Rattle.session.specs.Walks.{Started, Stepped, post_of};
 ghost use Rattle.session.specs.declared.stops.StartStop.{StartStop};
 ghost use Rattle.session.specs.declared.stops.StepStop.{StepStop};
 ghost use Rattle.session.specs.declared.calls.Step.TheVariants.{Goal};
@@ -33,24 +33,16 @@ impl<'a, S: Copy> Session<'a, S> {
         book: &B,
         bench: &K,
     ) -> Result<u16, StartStop>
-        ensures started { Started (B.meaning book.now) (record { state = K.stands bench.now; ready = K.fit book.now bench.now }) (view self.old) result (view self.new) }
+        ensures started { Started (B.meaning book.now) (post_of K.stands (K.fit book.now) bench.now) (view self.old) result (view self.new) }
         ensures refused { (e : StartStop) → result ≡ Err e → view self.new ≡ view self.old }
         ensures lent { SameLists self.old self.new }
     {
-        match self.record.progress.standing {
-            Standing::Working => return Err(StartStop::Working),
-            Standing::Full(_) => return Err(StartStop::Full),
-            _ => {}
-        }
-        let Some(place) = self.place(book, bench.state(book)) else {
-            return Err(StartStop::Unlisted);
-        };
-        let Some(row) = self.row(place) else {
-            return Err(StartStop::Unlisted);
-        };
-        let Some(rank) = row.rank else {
-            return Err(StartStop::Blank);
-        };
+        self.concluded()?;
+        let place = self
+            .place(book, bench.state(book))
+            .ok_or(StartStop::Unlisted)?;
+        let row = self.row(place).ok_or(StartStop::Unlisted)?;
+        let rank = row.rank.ok_or(StartStop::Blank)?;
         self.record.walk = Some(Walk { place, acts: 0 });
         Ok(rank)
     }
@@ -64,23 +56,17 @@ impl<'a, S: Copy> Session<'a, S> {
         book: &B,
         bench: &mut K,
     ) -> Result<Step, StepStop>
-        ensures stepped { Stepped (B.meaning book.now) (record { state = K.stands bench.old; ready = K.fit book.now bench.old }) (view self.old) result (record { state = K.stands bench.new; ready = K.fit book.now bench.new }) (view self.new) }
+        ensures stepped { Stepped (B.meaning book.now) (post_of K.stands (K.fit book.now) bench.old) (view self.old) result (post_of K.stands (K.fit book.now) bench.new) (view self.new) }
         ensures refused { (e : StepStop) → result ≡ Err e → (view self.new ≡ view self.old) × (bench.new ≡ bench.old) }
         ensures goal { result ≡ Ok Goal → (view self.new ≡ view self.old) × (bench.new ≡ bench.old) }
         ensures lent { SameLists self.old self.new }
     {
-        let Some(walk) = self.record.walk else {
-            return Err(StepStop::NoWalk);
-        };
-        let Some(s) = self.state(walk.place) else {
-            return Err(StepStop::NoWalk);
-        };
+        let walk = self.record.walk.ok_or(StepStop::NoWalk)?;
+        let s = self.state(walk.place).ok_or(StepStop::NoWalk)?;
         if !book.same(s, bench.state(book)) {
             return Err(StepStop::Elsewhere);
         }
-        let Some(row) = self.row(walk.place) else {
-            return Err(StepStop::NoWalk);
-        };
+        let row = self.row(walk.place).ok_or(StepStop::NoWalk)?;
         let Some(act) = row.act else {
             return Ok(Step::Goal);
         };

@@ -66,10 +66,7 @@ impl<'a, S: Copy> Session<'a, S> {
     fn working(&self) -> bool
         ensures { result ≡ works_at self.now.«record».progress.standing }
     {
-        match self.record.progress.standing {
-            Standing::Working => true,
-            _ => false,
-        }
+        matches!(self.record.progress.standing, Standing::Working)
     }
 
     /// Works for at most `quota` units, fewer if the search is decided before, and answers where the search then stands
@@ -80,13 +77,11 @@ impl<'a, S: Copy> Session<'a, S> {
         ensures portions { Portions (B.meaning book.now) }
         ensures lent { SameLists self.old self.new }
     {
-        let mut done = 0;
-        while done < quota {
+        for _unit in 0..quota {
             if !self.working() {
                 return self.record.progress;
             }
             self.unit(book);
-            done += 1;
         }
         self.record.progress
     }

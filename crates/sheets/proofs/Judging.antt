@@ -37,13 +37,6 @@ pub condition_few : (n at : ℕ) (e : Entry) → event_check n at e ≡ Ok tt �
 condition_few n at e f = checked_ok n e.condition (formula_passed n (at + 4) e.condition (then_parts (ask (fields_fit n e) (Event at)) (formula_check n (at + 4) e.condition) f).1)
 
 module _ (n at left : ℕ) (bs : List ℕ) where
-  pub events_over : 0 < length bs → left ≡ 0 → events_check n at left bs ≡ Err (Event at)
-  events_over h e = go bs h ∙ refl
-    where
-      go : (bs : List ℕ) → 0 < length bs → events_check n at left bs ≡ Err (Event at)
-      go [] h = absurd (omega arith)
-      go (b ∷ cs) h = ap (λ k. events_check n at k (b ∷ cs)) e
-
   pub events_step : 0 < length bs → 0 < left → (o : Option (Entry × List ℕ)) → first_event bs ≡ o → events_check n at left bs ≡ elim o [ Some p ↦ then (event_check n at p.0) (events_check n (at + 4 + length p.0.condition) (left - 1) p.1) | None ↦ Err (Event at) ]
   events_step h l o e = go bs left h l e
     where
@@ -54,22 +47,6 @@ module _ (n at left : ℕ) (bs : List ℕ) where
           let f : suc k - 1 ≡ k = omega arith in
           ap (λ o. elim o [ Some p ↦ then (event_check n at p.0) (events_check n (at + 4 + length p.0.condition) k p.1) | None ↦ Err (Event at) ]) e ∙ ap (λ j. elim o [ Some p ↦ then (event_check n at p.0) (events_check n (at + 4 + length p.0.condition) j p.1) | None ↦ Err (Event at) ]) (sym f)
 
-  pub events_fault : (e : Entry) (rest : List ℕ) (t : SectionFault) → 0 < length bs → 0 < left → first_event bs ≡ Some (e, rest) → Err t ≡ event_check n at e → events_check n at left bs ≡ Err t
-  events_fault e rest t h l f g = events_step h l (Some (e, rest)) f ∙ ap (λ r. then r (events_check n (at + 4 + length e.condition) (left - 1) rest)) (sym g)
-
-  pub events_on : (e : Entry) (rest : List ℕ) → 0 < length bs → 0 < left → first_event bs ≡ Some (e, rest) → event_check n at e ≡ Ok tt → events_check n at left bs ≡ events_check n (at + 4 + length e.condition) (left - 1) rest
-  events_on e rest h l f g = events_step h l (Some (e, rest)) f ∙ ap (λ r. then r (events_check n (at + 4 + length e.condition) (left - 1) rest)) g
-
 -- an act that has a byte is judged by its events
 pub act_some : (n : ℕ) (bs : List ℕ) → 0 < length bs → act_check n bs ≡ events_check n 0 16 bs
 act_some n bs h = ap (λ b. then (ask b (Event 0)) (events_check n 0 16 bs)) (lt-ltb 0 (length bs) h)
-
--- what the events left over say is said of the act
-pub act_told : (n at left : ℕ) (bs rest : List ℕ) (r : Result (Unit {0}) SectionFault) → 0 < length bs → events_check n at left rest ≡ events_check n 0 16 bs → events_check n at left rest ≡ r → r ≡ act_check n bs
-act_told n at left bs rest r h e f = sym f ∙ e ∙ sym (act_some n bs h)
-
--- the events left over after one more
-pub act_goes : (n at count : ℕ) (bs rest after : List ℕ) (e : Entry) → count < 16 → 0 < length rest → events_check n at (16 - count) rest ≡ events_check n 0 16 bs → first_event rest ≡ Some (e, after) → event_check n at e ≡ Ok tt → events_check n (at + 4 + length e.condition) (16 - (count + 1)) after ≡ events_check n 0 16 bs
-act_goes n at count bs rest after e l h i f g =
-    let k : 16 - (count + 1) ≡ 16 - count - 1 = omega arith in
-    ap (λ j. events_check n (at + 4 + length e.condition) j after) k ∙ sym (events_on n at (16 - count) rest e after h (omega arith) f g) ∙ i

@@ -5,5 +5,6 @@ pub mod Masks
 pub mod Judging
 pub mod Walking
 mod Acting
+mod Passing
 mod Spreading
 mod Layouts

@@ -1,7 +1,6 @@
 -- The first event of some bytes, from its parts. Assumes nothing.
-use Rattle.std.proofs.Common.{◌≡◌, ℕ, zero, suc, ◌<◌, ◌≤◌, Bool, true, false, cond, leb, List, [], ◌∷◌, length, get_or, take, drop, Some, None, Ok, Err, Option, Result, sym, refl, ap, ◌∙◌, subst, arith, length-drop}
+use Rattle.std.proofs.Common.{◌≡◌, ℕ, zero, suc, ◌<◌, ◌≤◌, Bool, true, false, cond, leb, List, [], ◌∷◌, length, take, drop, Some, None, Ok, Err, Option, Result, sym, refl, ap, ◌∙◌, arith, length-drop}
 use Rattle.std.proofs.lemmas.List.{nil_from_length}
-use Rattle.std.proofs.lemmas.Bool.{le-leb, cond-true}
 use Rattle.sheets.specs.Events.{Entry, first_event, events_within, events_of}
 
 -- an answer is not both there and not there
@@ -11,18 +10,6 @@ none_some f = let z : ◌≡◌ {A = ℕ} 0 1 = cc in omega arith
 -- a refusal is no acceptance
 pub refused : {E X : Type 0} {t : E} {x : X} → ◌≡◌ {A = Result X E} (Err t) (Ok x) → ⊥
 refused e = let z : ◌≡◌ {A = ℕ} 0 1 = cc in omega arith
-
--- the bytes after the first four hold as many as the fourth says
-pub first_whole : (bs r p q : List ℕ) → 4 ≤ length bs → r ≡ drop 4 bs → get_or bs 3 0 ≤ length r → p ≡ take (get_or bs 3 0) r → q ≡ drop (get_or bs 3 0) r → ◌≡◌ {A = Option (Entry × List ℕ)} (Some (record { class = get_or bs 0 0; set = get_or bs 1 0; clear = get_or bs 2 0; condition = p }, q)) (first_event bs)
-first_whole [] r p q h e l f g = absurd (omega arith)
-first_whole (_ ∷ []) r p q h e l f g = absurd (omega arith)
-first_whole (_ ∷ _ ∷ []) r p q h e l f g = absurd (omega arith)
-first_whole (_ ∷ _ ∷ _ ∷ []) r p q h e l f g = absurd (omega arith)
-first_whole (c ∷ s ∷ d ∷ n ∷ rest) r p q h e l f g =
-    let u : p ≡ take n rest = f ∙ ap (take n) e in
-    let v : q ≡ drop n rest = g ∙ ap (drop n) e in
-    let w : n ≤ length rest = subst (λ xs. n ≤ length xs) e l in
-    ap (λ xs. Some (record { class = c; set = s; clear = d; condition = xs }, q)) u ∙ ap (λ xs. Some (record { class = c; set = s; clear = d; condition = take n rest }, xs)) v ∙ sym (cond-true (leb n (length rest)) (Some (record { class = c; set = s; clear = d; condition = take n rest }, drop n rest)) None (le-leb n (length rest) w))
 
 -- the bytes after an event are fewer
 pub rest_shorter : (bs : List ℕ) (e : Entry) (rest : List ℕ) → first_event bs ≡ Some (e, rest) → length rest < length bs
@@ -39,10 +26,10 @@ rest_shorter (c ∷ s ∷ d ∷ n ∷ bs) e rest f = go (leb n (length bs)) f
         omega (arith, ap (λ p. length p.1) r)
     go false g = absurd (none_some g)
 
-within_step : (k : ℕ) (bs : List ℕ) (e : Entry) (rest : List ℕ) → first_event bs ≡ Some (e, rest) → events_within (suc k) bs ≡ e ∷ events_within k rest
+pub within_step : (k : ℕ) (bs : List ℕ) (e : Entry) (rest : List ℕ) → first_event bs ≡ Some (e, rest) → events_within (suc k) bs ≡ e ∷ events_within k rest
 within_step k bs e rest f = ap (λ o. elim o [ Some p ↦ p.0 ∷ events_within k p.1 | None ↦ [] ]) f
 
-within_end : (k : ℕ) (bs : List ℕ) → first_event bs ≡ None → events_within k bs ≡ []
+pub within_end : (k : ℕ) (bs : List ℕ) → first_event bs ≡ None → events_within k bs ≡ []
 within_end zero bs f = refl
 within_end (suc k) bs f = ap (λ o. elim o [ Some p ↦ p.0 ∷ events_within k p.1 | None ↦ [] ]) f
 
@@ -65,3 +52,15 @@ events_more bs e rest f =
 -- there are none where the first is cut short
 pub events_none : (bs : List ℕ) → first_event bs ≡ None → events_of bs ≡ []
 events_none bs f = within_end (length bs) bs f
+
+-- there are no more events than bytes
+few_more : (k : ℕ) → ((bs : List ℕ) → length (events_within k bs) ≤ k) → (o : Option (Entry × List ℕ)) → length {A = Entry} (elim o [ Some p ↦ p.0 ∷ events_within k p.1 | None ↦ [] ]) ≤ suc k
+few_more k h (Some p) = omega (arith, h p.1)
+few_more k h None = omega arith
+
+within_few : (k : ℕ) (bs : List ℕ) → length (events_within k bs) ≤ k
+within_few zero bs = omega arith
+within_few (suc k) bs = few_more k (within_few k) (first_event bs)
+
+pub events_few : (bs : List ℕ) → length (events_of bs) ≤ length bs
+events_few bs = within_few (length bs) bs

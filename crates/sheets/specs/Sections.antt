@@ -1,5 +1,5 @@
 -- The sections of a sheet, one after another, by name. Assumes nothing.
-use Rattle.std.specs.Prelude.{ℕ, zero, suc, ◌+◌, ◌*◌, Bool, cond, ◌&&◌, List, length, Some, None, Option, nat_le, nat_lt, slice_index}
+use Rattle.std.specs.Prelude.{ℕ, zero, suc, ◌+◌, ◌-◌, ◌*◌, Bool, cond, ◌&&◌, List, [], ◌∷◌, length, Some, None, Option, nat_le, nat_lt, slice_index}
 use Rattle.sheets.specs.declared.reader.Section.{Section}
 use Rattle.sheets.specs.declared.reader.Section.TheVariants.{Start, Goal, Act}
 use Rattle.sheets.specs.Rules.{section_bytes, section_count}
@@ -34,3 +34,12 @@ part (Act bs) = act bs.now
 abbrev pub handed : Option Section → Option Part
 handed (Some s) = Some (part s)
 handed None = None
+
+-- the sections of a sheet from section k on, one after another, up to the first that it does not have: of at most so many
+abbrev pub sections_within : List ℕ → ℕ → ℕ → List Part
+sections_within bs k zero = []
+sections_within bs k (suc n) = elim (section_of bs k) [ Some p ↦ p ∷ sections_within bs (k + 1) n | None ↦ [] ]
+
+-- the sections of a sheet from section k on, up to the first that it does not have
+abbrev pub sections_from : List ℕ → ℕ → List Part
+sections_from bs k = sections_within bs k (section_count (slice_index bs 1) - k)

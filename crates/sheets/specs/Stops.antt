@@ -1,5 +1,5 @@
 -- The number, the section and the place of each fault. Assumes nothing.
-use Rattle.std.specs.Prelude.{ℕ, ◌+◌, ◌*◌}
+use Rattle.std.specs.Prelude.{ℕ, ◌+◌, ◌*◌, List, [], ◌∷◌, ◌++◌, codes, decimal}
 use Rattle.sheets.specs.declared.fault.FormulaFault.{FormulaFault}
 use Rattle.sheets.specs.declared.fault.FormulaFault.TheVariants.{TooLong, Wrong, Spare, Unfinished}
 use Rattle.sheets.specs.declared.fault.SectionFault.{SectionFault}
@@ -52,3 +52,12 @@ stop_place Acts = 1
 stop_place Header = 0
 stop_place (Pair k) = 2 + 4 * k
 stop_place (Section _ offset fault) = offset + section_place fault
+
+-- each word after a space
+abbrev pub after_spaces : List (List ℕ) → List ℕ
+after_spaces [] = []
+after_spaces (w ∷ ws) = codes " " ++ (w ++ after_spaces ws)
+
+-- what is printed of a sheet's fault: `stop` with its number, section and place
+abbrev pub stop_line : SheetFault → List ℕ
+stop_line fault = codes "stop" ++ after_spaces (decimal (stop_number fault) ∷ decimal (stop_section fault) ∷ decimal (stop_place fault) ∷ [])

@@ -1,10 +1,13 @@
 //! What is wrong with a sheet, and where: a formula's fault lies inside a section's, and that inside the sheet's.
 
-ghost use Rattle.std.specs.Prelude.{◌≡◌};
-ghost use Rattle.sheets.specs.Stops.{formula_place, section_number, section_place, stop_number, stop_place, stop_section};
+ghost use Rattle.std.specs.Prelude.{◌≡◌, Some};
+ghost use Rattle.sheets.specs.Stops.{formula_place, section_number, section_place, stop_line, stop_number, stop_place, stop_section};
+
+use std::error::Error;
+use std::fmt;
 
 /// Why a text is not one whole formula. Places count from the text's first byte.
-#[derive(Clone, Copy, Debug, PartialEq)]
+#[derive(Clone, Copy, Debug, PartialEq, Eq)]
 pub enum FormulaFault {
     /// The text has over 200 bytes.
     TooLong,
@@ -23,15 +26,15 @@ impl FormulaFault {
     {
         match self {
             FormulaFault::TooLong => 0,
-            FormulaFault::Wrong(place) => place,
-            FormulaFault::Spare(place) => place,
-            FormulaFault::Unfinished(place) => place,
+            FormulaFault::Wrong(place)
+            | FormulaFault::Spare(place)
+            | FormulaFault::Unfinished(place) => place,
         }
     }
 }
 
 /// What is wrong with a section. Places count from the section's first byte.
-#[derive(Clone, Copy, Debug, PartialEq)]
+#[derive(Clone, Copy, Debug, PartialEq, Eq)]
 pub enum SectionFault {
     /// The start has not eight bytes, or its mask is 0 or has a bit for no valuation.
     Start,
@@ -60,14 +63,14 @@ impl SectionFault {
     {
         match self {
             SectionFault::Start => 0,
-            SectionFault::Event(at) => at as u32,
-            SectionFault::Formula { at, fault } => at as u32 + fault.place() as u32,
+            SectionFault::Event(at) => u32::from(at),
+            SectionFault::Formula { at, fault } => u32::from(at) + u32::from(fault.place()),
         }
     }
 }
 
 /// Why a sheet is refused.
-#[derive(Clone, Copy, Debug, PartialEq)]
+#[derive(Clone, Copy, Debug, PartialEq, Eq)]
 pub enum SheetFault {
     /// The sheet has under 2 or over 16,384 bytes.
     Size,
@@ -118,8 +121,22 @@ impl SheetFault {
         match self {
             SheetFault::Size | SheetFault::Features | SheetFault::Header => 0,
             SheetFault::Acts => 1,
-            SheetFault::Pair(k) => 2 + 4 * k as u32,
-            SheetFault::Section { offset, fault, .. } => offset as u32 + fault.place(),
+            SheetFault::Pair(k) => 2 + 4 * u32::from(k),
+            SheetFault::Section { offset, fault, .. } => u32::from(offset) + fault.place(),
         }
     }
 }
+
+/// `stop` with the stop's number, section and place.
+impl fmt::Display for SheetFault {
+    ghost output = { λ fault. Some (stop_line fault) };
+
+    fn fmt<W: fmt::Write>(&self, f: &mut fmt::Formatter<W>) -> fmt::Result {
+        let number = self.number();
+        let section = self.section();
+        let place = self.place();
+        write!(f, "stop {number} {section} {place}")
+    }
+}
+
+impl Error for SheetFault {}

@@ -23,7 +23,7 @@ fn arity_over(letters: u8, sign: char) -> Option<u8>
     ensures { result ≡ arity_over letters sign }
 {
     match sign {
-        'a'..='z' if sign as u32 >= 97 + letters as u32 => None,
+        'a'..='z' if u32::from(sign) >= u32::from(b'a') + u32::from(letters) => None,
         _ => arity(sign),
     }
 }
@@ -36,21 +36,20 @@ pub fn check_formula(text: &[u8], letters: u8) -> Result<(), FormulaFault>
     ensures grammar { letters ≤ 26 → Accepts letters text.now result }
     ensures place { letters ≤ 26 → ToldFirst letters text.now result }
 {
-    if text.len() > 200 {
-        return Err(FormulaFault::TooLong);
-    }
+    let size = match u8::try_from(text.len()) {
+        Ok(size) if size <= 200 => size,
+        _ => return Err(FormulaFault::TooLong),
+    };
     let mut owed: u8 = 1;
-    for i in 0..text.len() {
+    for (place, sign) in (0..size).zip(text) {
         if owed == 0 {
-            return Err(FormulaFault::Spare(i as u8));
+            return Err(FormulaFault::Spare(place));
         }
-        match arity_over(letters, text[i] as char) {
-            Some(a) => owed = owed - 1 + a,
-            None => return Err(FormulaFault::Wrong(i as u8)),
-        }
+        let own = arity_over(letters, char::from(*sign)).ok_or(FormulaFault::Wrong(place))?;
+        owed = owed - 1 + own;
     }
     if owed > 0 {
-        return Err(FormulaFault::Unfinished(text.len() as u8));
+        return Err(FormulaFault::Unfinished(size));
     }
     Ok(())
 }

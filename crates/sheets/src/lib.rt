@@ -10,7 +10,7 @@ mod reader;
 mod section;
 mod sheet;
 
-pub use event::{Event, first_event};
+pub use event::{Event, Events, first_event};
 pub use fault::{FormulaFault, SectionFault, SheetFault};
 pub use formula::{arity, check_formula};
 pub use reader::{Reader, Section};

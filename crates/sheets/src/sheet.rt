@@ -1,13 +1,14 @@
 //! A sheet read whole: header, pairs, sections.
 
-ghost use Rattle.std.specs.Prelude.{◌≡◌, ◌≤◌, length, slice_index};
+ghost use Rattle.std.specs.Prelude.{◌≡◌, ◌+◌, ◌<◌, ◌≤◌, length, slice_index};
 ghost use Rattle.sheets.specs.Layout.{AcceptsLayout};
-ghost use Rattle.sheets.specs.Reading.{act_bytes, answered, header_check, pair_fits, pairs_check, parts, parts_at, read_sheet, section_numbers, sections_check};
-ghost use Rattle.sheets.specs.Rules.{ending as ending_at, header_end};
+ghost use Rattle.sheets.specs.Reading.{act_bytes, answered, header_check, in_sheet, pairs_check, part_check, parts, parts_at, read_sheet, section_numbers, sections_check};
+ghost use Rattle.sheets.specs.Rules.{header_end, offset};
+ghost use Rattle.sheets.specs.Sections.{part};
 
 use crate::fault::SheetFault;
-use crate::reader::{Reader, byte, find_section, offset, size};
-use crate::section::{check_section, start_mask};
+use crate::reader::{Header, Reader, Section};
+use crate::section::{SectionRules, start_mask};
 
 /// A sheet: its counts and its start, and the bytes in which its goal and its acts are found. Reading gives one that is
 /// laid out by the rules; the questions have an answer on any value.
@@ -26,22 +27,23 @@ impl<'a> Sheet<'a> {
         ensures answer { answered result ≡ read_sheet bytes.now }
         ensures layout { AcceptsLayout bytes.now (answered result) }
     {
-        check_header(bytes)?;
-        check_pairs(bytes)?;
-        check_sections(bytes)?;
-        Ok(Sheet::over(bytes))
+        let header = Header { sheet: bytes };
+        check_header(header)?;
+        check_pairs(header)?;
+        check_sections(header)?;
+        Ok(Sheet::over(header))
     }
 
-    // The parts where the sheet's pairs point.
-    fn over(bytes: &'a [u8]) -> Sheet<'a>
-        ensures { parts result ≡ parts_at bytes.now }
+    // The parts where the header's pairs point.
+    fn over(header: Header<'a>) -> Sheet<'a>
+        ensures { parts result ≡ parts_at header.entry.sheet.now }
     {
         Sheet {
-            features: byte(bytes, 0),
-            acts: byte(bytes, 1),
-            start: start_mask(find_section(bytes, 0)),
-            goal: find_section(bytes, 1),
-            bytes,
+            features: header.features(),
+            acts: header.acts(),
+            start: start_mask(header.section(0)),
+            goal: header.section(1),
+            bytes: header.sheet,
         }
     }
 
@@ -77,82 +79,73 @@ impl<'a> Sheet<'a> {
     pub fn act(&self, i: u8) -> &'a [u8]
         ensures { result.now ≡ act_bytes self.now i }
     {
-        let bytes = self.bytes;
         if i < self.acts {
-            find_section(bytes, i as u16 + 2)
+            Header { sheet: self.bytes }.section(u16::from(i) + 2)
         } else {
-            &bytes[0..0]
+            &[]
         }
     }
 }
 
 // Whether length and counts are right and the header has room.
-fn check_header(sheet: &[u8]) -> Result<(), SheetFault>
-    ensures { result ≡ header_check sheet.now }
+fn check_header(header: Header) -> Result<(), SheetFault>
+    ensures { result ≡ header_check header.entry.sheet.now }
 {
-    let features = byte(sheet, 0);
-    let acts = byte(sheet, 1);
-    if sheet.len() < 2 || sheet.len() > 16_384 {
+    if !(2..=16_384).contains(&header.sheet.len()) {
         return Err(SheetFault::Size);
     }
-    if features < 1 || features > 6 {
+    if !(1..=6).contains(&header.features()) {
         return Err(SheetFault::Features);
     }
-    if acts > 16 {
+    if header.acts() > 16 {
         return Err(SheetFault::Acts);
     }
-    if sheet.len() < 2 + 4 * (acts as usize + 2) {
+    if header.sheet.len() < header.end() {
         return Err(SheetFault::Header);
     }
     Ok(())
 }
 
-// Where the section of that number ends.
-fn ending(sheet: &[u8], number: u16) -> usize
-    ensures { result ≡ ending_at sheet.now number }
+// Whether all pairs are right: each section begins at the end of what is before it or later, and the last ends in the
+// sheet.
+fn check_pairs(header: Header) -> Result<(), SheetFault>
+    ensures { result ≡ pairs_check header.entry.sheet.now (header_end (slice_index header.entry.sheet.now 1)) (section_numbers header.entry.sheet.now) }
 {
-    offset(sheet, number) as usize + size(sheet, number) as usize
-}
-
-// Whether the pair's section begins at the end of what is before it or later, and if it is the last, ends in the sheet.
-fn pair_fits(sheet: &[u8], end: usize, number: u16, last: bool) -> bool
-    ensures { result ≡ pair_fits sheet.now end number last }
-{
-    end <= offset(sheet, number) as usize && (!last || ending(sheet, number) <= sheet.len())
-}
-
-// Whether all pairs are right.
-fn check_pairs(sheet: &[u8]) -> Result<(), SheetFault>
-    ensures { result ≡ pairs_check sheet.now (header_end (slice_index sheet.now 1)) (section_numbers sheet.now) }
-{
-    let count = byte(sheet, 1) as u16 + 2;
-    let mut end = 2 + 4 * count as usize;
+    let count = header.section_count();
+    let mut end = header.end();
+    // Each turn goes on where the section before ended, so a chain would carry that end along and read no plainer.
     for number in 0..count {
-        if !pair_fits(sheet, end, number, number + 1 == count) {
+        if !header.pair_fits(end, number, number + 1 == count) {
             return Err(SheetFault::Pair(number));
         }
-        end = ending(sheet, number);
+        end = header.ending(number);
     }
     Ok(())
 }
 
-// Whether all sections are right, in a sheet that has its whole header.
-fn check_sections(sheet: &[u8]) -> Result<(), SheetFault>
-    requires { header_end (slice_index sheet.now 1) ≤ length sheet.now }
-    ensures { result ≡ sections_check sheet.now (section_numbers sheet.now) }
+// Whether a section, the one of that number, is right.
+fn check_section(header: Header, number: u16, section: Section) -> Result<(), SheetFault>
+    requires { number < 257 }
+    ensures { result ≡ in_sheet (number + 1) (offset header.entry.sheet.now number) (part_check (slice_index header.entry.sheet.now 0) (part section.entry)) }
 {
-    let features = byte(sheet, 0);
-    let mut reader = Reader::new(sheet);
-    let mut number: u16 = 0;
-    while let Some(section) = reader.next() {
-        if let Err(fault) = check_section(section, features) {
-            return Err(SheetFault::Section {
-                section: number + 1,
-                offset: offset(sheet, number),
-                fault,
-            });
-        }
-        number += 1;
+    let rules = SectionRules {
+        features: header.features(),
+    };
+    let offset = header.offset(number);
+    rules.check(section).map_err(|fault| SheetFault::Section {
+        section: number + 1,
+        offset,
+        fault,
+    })
+}
+
+// Whether all sections are right, in a sheet that has its whole header.
+fn check_sections(header: Header) -> Result<(), SheetFault>
+    requires { header_end (slice_index header.sheet.now 1) ≤ length header.sheet.now }
+    ensures { result ≡ sections_check header.entry.sheet.now (section_numbers header.entry.sheet.now) }
+{
+    for (number, section) in (0..header.section_count()).zip(Reader::new(header.sheet)) {
+        check_section(header, number, section)?;
     }
     Ok(())
 }

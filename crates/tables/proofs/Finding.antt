@@ -4,15 +4,17 @@ use Rattle.std.proofs.lemmas.List.Elements.{filter-append}
 use Rattle.std.proofs.lemmas.List.{take-append-drop}
 use Rattle.std.proofs.lemmas.Option.{slice_get_past}
 use Rattle.std.proofs.lemmas.Bool.{both_ways, cases_Bool, cases_lt, cond-false, cond-true}
+use Rattle.std.proofs.ByRecursion.{All-weaker}
+use Rattle.std.proofs.lemmas.Bool.Decides.{nat_tests}
 use Rattle.std.specs.List.{AllByRecursion as All, slice_get}
 use Rattle.tables.specs.Looking.{block, early, first_row, front, middle, seek}
 use Rattle.tables.specs.Places.{passes}
-use Rattle.tables.specs.Rows.{leads, precedes, rows_of}
+use Rattle.tables.specs.Rows.{falls, leads, precedes, rows_of}
 use Rattle.tables.specs.declared.spot.Spot.{Spot}
 use Rattle.tables.specs.declared.row.TableRow.{TableRow}
 use Rattle.tables.proofs.Lists.{all_from, cond_same, kept_none, nth_drop, taken}
 use Rattle.tables.proofs.Seeking.{seek_down, seek_none, seek_up}
-use Rattle.tables.proofs.Sorting.{Above, Sorted, later, leads_else, leads_not_early, leads_not_late, sorted_drop}
+use Rattle.tables.proofs.Sorting.{Above, Sorted, sorted_drop}
 
 module _ (s : Spot) (a : ℕ) where
   abbrev comes : TableRow → Bool
@@ -21,7 +23,7 @@ module _ (s : Spot) (a : ℕ) where
   -- once a row does not come before act a in spot s, none after it does
   comes_not : (r : TableRow) (qs : List TableRow) → Above r qs → comes r ≡ false → (j : ℕ) → passes comes (slice_get qs j) ≡ false
   comes_not r [] k e j = refl
-  comes_not r (q ∷ qs) k e zero = later q.from r.from s q.act r.act a k.0 e
+  comes_not r (q ∷ qs) k e zero = let f : falls r q ≡ false = k.0 in grind (arith, nat_tests)
   comes_not r (q ∷ qs) k e (suc j) = comes_not r qs k.1 e j
 
   early_not : (rows : List TableRow) → Sorted rows → (i j : ℕ) → i ≤ j → early rows s a i ≡ false → early rows s a j ≡ false
@@ -36,18 +38,11 @@ module _ (s : Spot) (a : ℕ) where
   front_all (r ∷ rs) h e =
       elim (cases_Bool (leads s a r)) [
         | inl t ↦ cond-true (leads s a r) _ _ t ∙ ap (λ xs. r ∷ xs) (front_all rs h.1 e.1) ∙ sym (cond-true (leads s a r) _ _ t)
-        | inr f ↦ cond-false (leads s a r) _ _ f ∙ sym (cond-false (leads s a r) _ _ f ∙ kept_none (leads s a) rs (rest (leads_else s a r f e.0) rs h.0))
+        | inr f ↦
+            let g : comes r ≡ false = e.0 in
+            let none : All (λ q. leads s a q ≡ false) rs = All-weaker (λ q. falls r q ≡ false) (λ q. leads s a q ≡ false) (λ q k. grind (arith, nat_tests)) rs h.0 in
+            cond-false (leads s a r) _ _ f ∙ sym (cond-false (leads s a r) _ _ f ∙ kept_none (leads s a) rs none)
       ]
-    where
-      rest : precedes s a r.from r.act ≡ true → (qs : List TableRow) → Above r qs → All (λ q. leads s a q ≡ false) qs
-      rest t [] k = tt
-      rest t (q ∷ qs) k = (
-        elim (cases_Bool (leads s a q)) [
-          | inl u ↦ absurd (both_ways (precedes s a r.from r.act) (later s q.from r.from a q.act r.act (leads_not_late s a q u) k.0) t)
-          | inr u ↦ u
-        ],
-        rest t qs k.1,
-      )
 
 module _ (rows : List TableRow) (s : Spot) (a : ℕ) where
   -- the rows below place f come before act a in spot s, and no others do
@@ -85,16 +80,16 @@ module _ (rows : List TableRow) (s : Spot) (a : ℕ) where
     block_all =
         let f = first_row rows s a in
         let none : filter (leads s a) (take f rows) ≡ [] =
-        kept_none (leads s a) (take f rows) (all_from (λ r. leads s a r ≡ false) (take f rows) (λ i r e. let q = taken f rows i r e in apart r (sym (ap (passes (comes s a)) q.1) ∙ parts.before i q.0)))
+        kept_none (leads s a) (take f rows) (all_from (λ r. leads s a r ≡ false) (take f rows) (λ i r e.
+        let q = taken f rows i r e in
+        let t : comes s a r ≡ true = sym (ap (passes (comes s a)) q.1) ∙ parts.before i q.0 in
+        grind (arith, nat_tests)))
         in
         let rest : All (λ r. comes s a r ≡ false) (drop f rows) =
         all_from (λ r. comes s a r ≡ false) (drop f rows) (λ i r e. sym (ap (passes (comes s a)) (sym (nth_drop f rows i) ∙ e)) ∙ parts.after (f + i) (omega arith))
         in
         front_all s a (drop f rows) (sorted_drop (take f rows) (drop f rows) (subst Sorted (sym (take-append-drop f rows)) sorted)) rest
         ∙ sym (ap (filter (leads s a)) (sym (take-append-drop f rows)) ∙ filter-append (leads s a) (take f rows) (drop f rows) ∙ ap (λ xs. xs ++ filter (leads s a) (drop f rows)) none)
-      where
-        apart : (r : TableRow) → comes s a r ≡ true → leads s a r ≡ false
-        apart r t = elim (cases_Bool (leads s a r)) [ inl u ↦ absurd (both_ways (comes s a r) (leads_not_early s a r u) t) | inr u ↦ u ]
 
   -- more halvings than binary digits change nothing
   pub seek_enough : (k n low high : ℕ) → high - low < 2 ^ k → high - low ≤ n → seek rows s a k low high ≡ seek rows s a n low high

@@ -1,12 +1,10 @@
 -- Lists: what stands at a place, what a filter keeps, and tests that stay true once they are. Assumes nothing.
-use Rattle.std.proofs.Common.{◌≡◌, ℕ, zero, suc, ◌+◌, ◌-◌, ◌<◌, ◌≤◌, Bool, true, false, cond, ◌||◌, leb, ◌⊎◌, List, [], ◌∷◌, ◌++◌, length, take, drop, Some, None, filter, Option, sym, refl, ap, ◌∙◌, inl, inr, arith, Bor}
-use Rattle.std.specs.Option.{option_map}
-use Rattle.std.specs.Slice.{IsGetResult}
-use Rattle.std.proofs.lemmas.Option.{slice_get-get_or, slice_get_past}
-use Rattle.std.proofs.lemmas.Bool.{cases_Bool, cases_lt, cond-false, cond-true, le-leb, lt-leb, leb-true}
-use Rattle.std.specs.List.{AllByRecursion as All, slice_get}
+use Rattle.std.proofs.Common.{◌≡◌, ℕ, zero, suc, ◌+◌, ◌-◌, ◌<◌, ◌≤◌, Bool, true, false, cond, ◌||◌, ◌&&◌, leb, List, [], ◌∷◌, ◌++◌, length, take, drop, Some, None, Option, filter, sym, refl, ap, ◌∙◌, inl, inr, arith}
+use Rattle.std.proofs.lemmas.Bool.{cases_Bool, cond-false, cond-true}
+use Rattle.std.proofs.lemmas.Bool.Decides.{nat_tests}
+use Rattle.std.specs.List.{AllByRecursion as All, list_all, slice_get}
+use Rattle.planning.specs.Ranks.{every}
 use Rattle.tables.specs.Places.{passes}
-use Rattle.planning.proofs.Lists.{none_some}
 
 pub cond_same : {A : Type 0} (b : Bool) {x x' y y' : A} → x ≡ x' → y ≡ y' → cond b x y ≡ cond b x' y'
 cond_same true p q = p
@@ -16,16 +14,16 @@ pub or_same : (b x y : Bool) → (b ≡ false → x ≡ y) → (b || x) ≡ (b |
 or_same true x y h = refl
 or_same false x y h = h refl
 
--- a copy of what stands at a place, as it is lent
-pub copied_at : {A : Type 0} (xs : List A) (i : ℕ) (r : Option (Bor A)) (o : Option A) → IsGetResult xs i i r → o ≡ option_map (λ x. x.now) r → o ≡ slice_get xs i
-copied_at xs i None o h e = e ∙ sym (slice_get_past xs i h.3)
-copied_at xs i (Some x) o h e = e ∙ ap (λ y. Some y) (h.3.1 x.now) ∙ sym (slice_get-get_or xs i x.now h.3.0)
+-- a test of what there is only if b holds
+pub passes_if : {A : Type 0} (p : A → Bool) (b : Bool) (o q : Option A) → (b ≡ true → o ≡ q) → cond b (passes p o) false ≡ passes p (cond b q None)
+passes_if p true o q h = ap (passes p) (h refl)
+passes_if p false o q h = refl
 
 module _ {A : Type 0} where
   -- what a front of a list holds, the list holds
   pub taken : (n : ℕ) (xs : List A) (i : ℕ) (x : A) → slice_get (take n xs) i ≡ Some x → (i < n) × (slice_get xs i ≡ Some x)
-  taken zero xs i x e = absurd (none_some refl e)
-  taken (suc n) [] i x e = absurd (none_some refl e)
+  taken zero xs i x e = cc
+  taken (suc n) [] i x e = cc
   taken (suc n) (y ∷ xs) zero x e = (omega arith, e)
   taken (suc n) (y ∷ xs) (suc i) x e = let r = taken n xs i x e in (omega arith, r.1)
 
@@ -40,13 +38,20 @@ module _ {A : Type 0} (P : A → Type 0) where
   all_from (x ∷ xs) h = (h 0 x refl, all_from xs (λ i y e. h (suc i) y e))
 
   pub all_at : (xs : List A) → All P xs → (i : ℕ) (x : A) → slice_get xs i ≡ Some x → P x
-  all_at [] h i x e = absurd (none_some refl e)
+  all_at [] h i x e = cc
   all_at (y ∷ xs) h zero x e = let p : y ≡ x = cc in rw (sym p) h.0
   all_at (y ∷ xs) h (suc i) x e = all_at xs h.1 i x e
 
   pub all_parts : (xs ys : List A) → All P (xs ++ ys) → All P xs × All P ys
   all_parts [] ys h = (tt, h)
   all_parts (x ∷ xs) ys h = let r = all_parts xs ys h.1 in ((h.0, r.0), r.1)
+
+-- a test that holds wherever there are n of m, and one that is asked of one more
+reached : (n m : ℕ) (b : Bool) → (n ≤ m → b ≡ true) → leb n m ≡ cond (leb n m) b false
+reached n m b h = grind (arith, nat_tests)
+
+one_more : (n m : ℕ) (b c : Bool) → (n ≤ m → c ≡ b) → (m < n → c ≡ false) → cond (leb n m) b false ≡ cond (leb n (suc m)) c false
+one_more n m b c h k = grind (arith, nat_tests)
 
 module _ {A : Type 0} (p : A → Bool) where
   pub kept_none : (xs : List A) → All (λ x. p x ≡ false) xs → filter p xs ≡ []
@@ -69,29 +74,21 @@ module _ {A : Type 0} (p : A → Bool) where
 
   -- at least n pass exactly if the one n places before the end does
   pub rising_count : (n : ℕ) → 0 < n → (xs : List A) → Rising xs → leb n (length (filter p xs)) ≡ cond (leb n (length xs)) (passes p (slice_get xs (length xs - n))) false
-  rising_count n pos [] h = let e : leb n 0 ≡ false = lt-leb n 0 pos in e ∙ sym (cond-false (leb n 0) _ _ e)
+  rising_count n pos [] h = grind (arith, nat_tests)
   rising_count n pos (x ∷ xs) h =
       elim (cases_Bool (p x)) [
-        | inl t ↦ ap (λ ys. leb n (length ys)) (kept_every (x ∷ xs) (t, h.0 t)) ∙ full t (cases_lt (length xs) n)
-        | inr f ↦ ap (λ ys. leb n (length ys)) (cond-false (p x) (x ∷ filter p xs) (filter p xs) f) ∙ rising_count n pos xs h.1 ∙ less f (cases_lt (length xs) n)
+        | inl t ↦
+            ap (λ ys. leb n (length ys)) (kept_every (x ∷ xs) (t, h.0 t))
+            ∙ reached n (suc (length xs)) (passes p (slice_get (x ∷ xs) (suc (length xs) - n))) (λ l. passes_all (x ∷ xs) (suc (length xs) - n) (t, h.0 t) (omega arith))
+        | inr f ↦
+            ap (λ ys. leb n (length ys)) (cond-false (p x) (x ∷ filter p xs) (filter p xs) f)
+            ∙ rising_count n pos xs h.1
+            ∙ one_more n (length xs) (passes p (slice_get xs (length xs - n))) (passes p (slice_get (x ∷ xs) (suc (length xs) - n)))
+            (λ l. let e : suc (length xs) - n ≡ suc (length xs - n) = omega arith in ap (λ i. passes p (slice_get (x ∷ xs) i)) e)
+            (λ l. let e : suc (length xs) - n ≡ 0 = omega arith in ap (λ i. passes p (slice_get (x ∷ xs) i)) e ∙ f)
       ]
-    where
-      full : p x ≡ true → (length xs < n) ⊎ (n ≤ length xs) → leb n (suc (length xs)) ≡ cond (leb n (suc (length xs))) (passes p (slice_get (x ∷ xs) (suc (length xs) - n))) false
-      full t _ =
-          elim (cases_Bool (leb n (suc (length xs)))) [
-            | inl u ↦ u ∙ sym (cond-true (leb n (suc (length xs))) _ _ u ∙ passes_all (x ∷ xs) (suc (length xs) - n) (t, h.0 t) (let l : n ≤ suc (length xs) = leb-true n (suc (length xs)) u in omega arith))
-            | inr u ↦ u ∙ sym (cond-false (leb n (suc (length xs))) _ _ u)
-          ]
 
-      less : p x ≡ false → (length xs < n) ⊎ (n ≤ length xs) → cond (leb n (length xs)) (passes p (slice_get xs (length xs - n))) false ≡ cond (leb n (suc (length xs))) (passes p (slice_get (x ∷ xs) (suc (length xs) - n))) false
-      less f (inr l) =
-          let e : suc (length xs) - n ≡ suc (length xs - n) = omega arith in
-          cond-true (leb n (length xs)) _ _ (le-leb n (length xs) l)
-          ∙ sym (cond-true (leb n (suc (length xs))) _ _ (le-leb n (suc (length xs)) (omega arith)) ∙ ap (λ i. passes p (slice_get (x ∷ xs) i)) e)
-      less f (inl l) =
-          let e : suc (length xs) - n ≡ 0 = omega arith in
-          cond-false (leb n (length xs)) _ _ (lt-leb n (length xs) l)
-          ∙ sym (elim (cases_Bool (leb n (suc (length xs)))) [
-            | inl u ↦ cond-true (leb n (suc (length xs))) _ _ u ∙ ap (λ i. passes p (slice_get (x ∷ xs) i)) e ∙ f
-            | inr u ↦ cond-false (leb n (suc (length xs))) _ _ u
-          ])
+-- the library's word for the same test
+pub every_is_all : {A : Type 0} (p : A → Bool) (xs : List A) → list_all p xs ≡ every p xs
+every_is_all p [] = refl
+every_is_all p (x ∷ xs) = ap (λ b. p x && b) (every_is_all p xs)

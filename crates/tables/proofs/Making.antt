@@ -3,67 +3,56 @@ use Rattle.std.proofs.Common.{◌≡◌, ℕ, zero, suc, ◌+◌, ◌<◌, ◌�
 use Rattle.std.proofs.lemmas.List.Elements.{filter-append}
 use Rattle.std.proofs.lemmas.List.Filters.{length-filter_more}
 use Rattle.std.proofs.lemmas.List.{length-append, length-map, take_all, take-append-drop}
-use Rattle.std.proofs.lemmas.Option.{slice_get-get_or}
-use Rattle.std.proofs.lemmas.Bool.{and_from, and_parts, both_ways, cases_Bool, cases_lt, cond-false, cond-true, eq-eqb, eqb-true, le-leb, le-ltb, leb-false, leb-true, lt-leb, lt-ltb, ltb-false, ltb-true}
+use Rattle.std.proofs.lemmas.Option.{get_or_from_slice_get, slice_get-get_or, slice_get_within}
+use Rattle.std.proofs.lemmas.Bool.{and_from, and_parts, cases_Bool, cases_lt, cond-false, cond-true, eq-eqb, eqb-true, le-leb, le-ltb, leb-false, leb-true, lt-leb, lt-ltb, ltb-false, ltb-true}
 use Rattle.std.proofs.ByRecursion.{Decides-by_and}
+use Rattle.std.proofs.lemmas.Bool.Decides.{nat_tests}
 use Rattle.std.specs.List.{AllByRecursion as All, slice_get}
 use Rattle.planning.specs.Ranks.{every}
-use Rattle.planning.proofs.Lists.{none_some, place_below}
 use Rattle.tables.specs.Books.{Faithful}
 use Rattle.tables.specs.Places.{back, passes}
 use Rattle.tables.specs.Rows.{falls, fits, leads, rows_of, targets}
 use Rattle.tables.specs.Spots.{within}
-use Rattle.tables.specs.Tables.{Fits, Follows, Table, WellMade, Within, answer_by, first_wrong, levels_fit, row_fault, table_answer, table_fault, wrong, wrong_after}
+use Rattle.tables.specs.Tables.{Fits, Follows, Table, WellMade, Within, first_wrong, levels_fit, row_fault, table_fault, wrong, wrong_after}
 use Rattle.tables.specs.declared.spot.Spot.{Spot}
 use Rattle.tables.specs.declared.row.TableRow.{TableRow}
 use Rattle.tables.specs.declared.fault.TableFault.{TableFault}
 use Rattle.tables.specs.declared.fault.TableFault.TheVariants.{Acts, Start, Wanted, Rows}
 use Rattle.tables.proofs.Finding.{block_all, seek_enough}
 use Rattle.tables.proofs.Judging.{Right, back_one, right_from, right_to, rise_at}
-use Rattle.tables.proofs.Keys.{first_not_less, not_under_from, second_not_less, third_not_less}
 use Rattle.tables.proofs.Lists.{all_at, all_from, kept_none}
 use Rattle.tables.proofs.Seeking.{blank}
 use Rattle.tables.proofs.Sorting.{Sorted, sorted_from}
 
 -- nothing comes of a choice with one way that gives something
 not_first : {A : Type 0} (b : Bool) (x : A) (o : Option A) → cond b (Some x) o ≡ None → (b ≡ false) × (o ≡ None)
-not_first true x o e = absurd (none_some e refl)
+not_first true x o e = cc
 not_first false x o e = (refl, e)
 
 not_second : {A : Type 0} (b : Bool) (x : A) (o : Option A) → cond b o (Some x) ≡ None → (b ≡ true) × (o ≡ None)
 not_second true x o e = (refl, e)
-not_second false x o e = absurd (none_some e refl)
+not_second false x o e = cc
 
 -- tests of the specs and what they say
-within_from : (s : Spot) → within s ≡ true → Within s
-within_from s e =
-    let p = and_parts (leb s.zone 63) (leb s.level 63) e in
-    record { zone = leb-true s.zone 63 p.0; level = leb-true s.level 63 p.1 }
+within_says : (s : Spot) → Decides (within s) (Within s)
+within_says s = (λ e. record { zone = grind (arith, nat_tests); level = grind (arith, nat_tests) }, λ h. grind (arith, nat_tests))
 
-within_to : (s : Spot) → Within s → within s ≡ true
-within_to s h = and_from (leb s.zone 63) (leb s.level 63) (le-leb s.zone 63 h.zone) (le-leb s.level 63 h.level)
-
-fits_from : (n : ℕ) (r : TableRow) → fits n r ≡ true → Fits n r
-fits_from n r e =
-    let p = and_parts (within r.from) (within r.to && ltb r.act n) e in
-    let q = and_parts (within r.to) (ltb r.act n) p.1 in
-    record { from = within_from r.from p.0; act = ltb-true r.act n q.1; to = within_from r.to q.0 }
-
-fits_to : (n : ℕ) (r : TableRow) → Fits n r → fits n r ≡ true
-fits_to n r h =
-    and_from (within r.from) (within r.to && ltb r.act n) (within_to r.from h.from)
-    (and_from (within r.to) (ltb r.act n) (within_to r.to h.to) (lt-ltb r.act n h.act))
+fits_says : (n : ℕ) (r : TableRow) → Decides (fits n r) (Fits n r)
+fits_says n r = (
+  λ e.
+      let p = and_parts (within r.from) (within r.to && ltb r.act n) e in
+      let q = and_parts (within r.to) (ltb r.act n) p.1 in
+      record { from = (within_says r.from).0 p.0; act = ltb-true r.act n q.1; to = (within_says r.to).0 q.0 },
+  λ h.
+      and_from (within r.from) (within r.to && ltb r.act n) ((within_says r.from).1 h.from)
+      (and_from (within r.to) (ltb r.act n) ((within_says r.to).1 h.to) (lt-ltb r.act n h.act)),
+)
 
 follows_from : (r q : TableRow) → falls r q ≡ false → Follows r q
-follows_from r q e =
-    record {
-      zone = first_not_less q.from.zone q.from.level q.act r.from.zone r.from.level r.act e;
-      level = second_not_less q.from.zone q.from.level q.act r.from.zone r.from.level r.act e;
-      act = third_not_less q.from.zone q.from.level q.act r.from.zone r.from.level r.act e;
-    }
+follows_from r q e = record { zone = grind (arith, nat_tests); level = λ f. grind (arith, nat_tests); act = λ f g. grind (arith, nat_tests) }
 
 follows_to : (r q : TableRow) → Follows r q → falls r q ≡ false
-follows_to r q h = not_under_from q.from.zone q.from.level q.act r.from.zone r.from.level r.act h.zone h.level h.act
+follows_to r q h = grind (arith, nat_tests)
 
 levels_say : (ws : List ℕ) → Decides (every (λ w. leb w 64) ws) (All (λ w. w ≤ 64) ws)
 levels_say ws = Decides-by_and (λ w. leb w 64) (λ w. w ≤ 64) (every (λ w. leb w 64)) (λ w. (leb-true w 64, le-leb w 64)) refl (λ _ _. refl) ws
@@ -75,16 +64,10 @@ record SameKey (s : Spot) (a : ℕ) (r : TableRow) : Type 0 where
   act : r.act ≡ a
 
 leads_from : (s : Spot) (a : ℕ) (r : TableRow) → leads s a r ≡ true → SameKey s a r
-leads_from s a r e =
-    let p = and_parts (eqb r.from.zone s.zone && eqb r.from.level s.level) (eqb r.act a) e in
-    let q = and_parts (eqb r.from.zone s.zone) (eqb r.from.level s.level) p.0 in
-    record { zone = eqb-true r.from.zone s.zone q.0; level = eqb-true r.from.level s.level q.1; act = eqb-true r.act a p.1 }
+leads_from s a r e = record { zone = grind (arith, nat_tests); level = grind (arith, nat_tests); act = grind (arith, nat_tests) }
 
 leads_itself : (r : TableRow) → leads r.from r.act r ≡ true
-leads_itself r =
-    and_from (eqb r.from.zone r.from.zone && eqb r.from.level r.from.level) (eqb r.act r.act)
-    (and_from (eqb r.from.zone r.from.zone) (eqb r.from.level r.from.level) (eq-eqb r.from.zone r.from.zone refl) (eq-eqb r.from.level r.from.level refl))
-    (eq-eqb r.act r.act refl)
+leads_itself r = grind (arith, nat_tests)
 
 rows_same : (rows : List TableRow) (s : Spot) (a : ℕ) (r : TableRow) → SameKey s a r → rows_of rows r.from r.act ≡ rows_of rows s a
 rows_same rows s a r h =
@@ -125,9 +108,8 @@ module _ (rows : List TableRow) where
 
   few_to : ((s : Spot) (a : ℕ) → length (rows_of rows s a) ≤ 8) → Few
   few_to h i r at =
-      let l : i < length rows = place_below rows i r at in
-      let o : Some (get_or rows i r) ≡ Some r = sym (slice_get-get_or rows i r l) ∙ at in
-      let k : get_or rows i r ≡ r = cc in
+      let l : i < length rows = slice_get_within rows i r at in
+      let k : get_or rows i r ≡ r = get_or_from_slice_get rows i r r at in
       let c = length-filter_more (leads r.from r.act) rows i r l in
       let one : cond {A = ℕ} (leads r.from r.act (get_or rows i r)) 1 0 ≡ 1 = ap (λ q. cond {A = ℕ} (leads r.from r.act q) 1 0) k ∙ cond-true (leads r.from r.act r) 1 0 (leads_itself r) in
       lt-leb 8 (length (rows_of (take i rows) r.from r.act)) (omega (arith, h r.from r.act, kept_take (leads r.from r.act) (i + 1) rows))
@@ -145,23 +127,23 @@ module _ (n : ℕ) (rows : List TableRow) where
   wrong_none h i (suc k) = cond-false (wrong n rows i) _ _ (h i) ∙ wrong_none h (suc i) k
 
 module _ (t : Table) where
-  well_from : table_fault t ≡ None → WellMade t
+  pub well_from : None ≡ table_fault t → WellMade t
   well_from e =
-      let acts = not_first (ltb 16 t.acts) Acts _ e in
+      let acts = not_first (ltb 16 t.acts) Acts _ (sym e) in
       let start = not_second (within t.start) Start _ acts.1 in
       let wanted = not_second (levels_fit t.wanted) Wanted _ start.1 in
       let many = not_first (ltb 32768 (length t.rows)) Rows _ wanted.1 in
       let levels = and_parts (eqb (length t.wanted) 64) (every (λ w. leb w 64) t.wanted) wanted.0 in
       let right : (i : ℕ) (r : TableRow) → slice_get t.rows i ≡ Some r → Right t.acts t.rows i r =
-      λ i r at. right_from t.acts t.rows i r at (none_wrong t.acts t.rows 0 (length t.rows) (no_row many.1) i (omega arith) (let l = place_below t.rows i r at in omega arith))
+      λ i r at. right_from t.acts t.rows i r at (none_wrong t.acts t.rows 0 (length t.rows) (no_row many.1) i (omega arith) (let l = slice_get_within t.rows i r at in omega arith))
       in
       record {
         few_acts = ltb-false 16 t.acts acts.0;
-        start_within = within_from t.start start.0;
+        start_within = (within_says t.start).0 start.0;
         all_zones = eqb-true (length t.wanted) 64 levels.0;
         levels = all_at (λ w. w ≤ 64) t.wanted ((levels_say t.wanted).0 levels.1);
         few_rows = ltb-false 32768 (length t.rows) many.0;
-        fields = λ i r at. fits_from t.acts r (right i r at).fit;
+        fields = λ i r at. (fits_says t.acts r).0 (right i r at).fit;
         order = λ i r q at next. follows_from r q (sym (rise_at t.acts t.rows i r q at) ∙ (right (suc i) q next).rise);
         few_outcomes = few_from t.rows (λ i r at. (right i r at).few);
       }
@@ -171,7 +153,7 @@ module _ (t : Table) where
         where
           by : (o : Option ℕ) → row_fault o ≡ None → o ≡ None
           by None h = refl
-          by (Some i) h = absurd (none_some h refl)
+          by (Some i) h = cc
 
   module _ (w : WellMade t) where
     rises : (i : ℕ) (r : TableRow) → slice_get t.rows i ≡ Some r → passes (λ q. falls q r) (back t.rows 1 i) ≡ false
@@ -189,12 +171,12 @@ module _ (t : Table) where
         by None e = ap (passes (wrong_after t.acts (back t.rows 1 i) (take i t.rows))) e
         by (Some r) e =
             right_to t.acts t.rows i r e
-            (record { fit = fits_to t.acts r (w.fields i r e); rise = rises i r e; few = few_to t.rows w.few_outcomes i r e })
+            (record { fit = (fits_says t.acts r).1 (w.fields i r e); rise = rises i r e; few = few_to t.rows w.few_outcomes i r e })
 
     well_to : table_fault t ≡ None
     well_to =
         cond-false (ltb 16 t.acts) _ _ (le-ltb 16 t.acts w.few_acts)
-        ∙ cond-true (within t.start) _ _ (within_to t.start w.start_within)
+        ∙ cond-true (within t.start) _ _ ((within_says t.start).1 w.start_within)
         ∙ cond-true (levels_fit t.wanted) _ _ (and_from (eqb (length t.wanted) 64) (every (λ l. leb l 64) t.wanted) (eq-eqb (length t.wanted) 64 w.all_zones) ((levels_say t.wanted).1 (all_from (λ l. l ≤ 64) t.wanted w.levels)))
         ∙ cond-false (ltb 32768 (length t.rows)) _ _ (le-ltb 32768 (length t.rows) w.few_rows)
         ∙ ap row_fault (wrong_none t.acts t.rows no_wrong 0 (length t.rows))
@@ -203,16 +185,14 @@ module _ (t : Table) where
     no_rows : (s : Spot) (a : ℕ) → (within s && ltb a (min t.acts 16)) ≡ false → rows_of t.rows s a ≡ []
     no_rows s a e =
         kept_none (leads s a) t.rows (all_from (λ r. leads s a r ≡ false) t.rows (λ i r at.
-        elim (cases_Bool (leads s a r)) [
-          | inl u ↦
-              let k = leads_from s a r u in
-              let f = w.fields i r at in
-              let few = w.few_acts in
-              absurd (both_ways (within s && ltb a (min t.acts 16)) e (and_from (within s) (ltb a (min t.acts 16)) (within_to s (record { zone = omega (arith, k.zone, f.from.zone); level = omega (arith, k.level, f.from.level) })) (lt-ltb a (min t.acts 16) (omega (arith, k.act, f.act)))))
-          | inr u ↦ u
-        ]))
+        let few = w.few_acts in
+        let f = w.fields i r at in
+        grind (arith, nat_tests)))
 
-    faithful : Faithful t
+    pub sorted : Sorted t.rows
+    sorted = sorted_from t.rows (λ i r q at next. follows_to r q (w.order i r q at next))
+
+    pub faithful : Faithful t
     faithful =
         record {
           all_rows = λ s a.
@@ -224,15 +204,6 @@ module _ (t : Table) where
               ];
           halvings = λ s a k h. seek_enough t.rows s a k (length t.rows) 0 (length t.rows) (omega arith) (omega arith);
         }
-      where
-        sorted : Sorted t.rows
-        sorted = sorted_from t.rows (λ i r q at next. follows_to r q (w.order i r q at next))
-
-  pub answered : (o : Option TableFault) → o ≡ table_fault t → answer_by t o ≡ table_answer t
-  answered o e = ap (answer_by t) e
 
   pub refused : (f : TableFault) → Some f ≡ table_fault t → WellMade t → ⊥
-  refused f e w = none_some (well_to w) (sym e)
-
-  pub accepted : None ≡ table_fault t → WellMade t × Faithful t
-  accepted e = let w = well_from (sym e) in (w, faithful w)
+  refused f e w = let n : table_fault t ≡ None = well_to w in cc

@@ -1,14 +1,20 @@
--- The look-up, one halving after another, and one row after another. Assumes nothing.
-use Rattle.std.proofs.Common.{◌≡◌, ℕ, zero, suc, ◌+◌, ◌-◌, ◌<◌, ◌≤◌, Bool, true, false, cond, ltb, List, [], ◌∷◌, length, get_or, drop, Some, None, Option, sym, refl, ap, ◌∙◌, add-one, arith}
-use Rattle.std.proofs.lemmas.List.{at_drop_more, at_drop_all}
-use Rattle.std.proofs.lemmas.Option.{slice_get-get_or}
-use Rattle.std.proofs.lemmas.Bool.{cond-true, cond-false, le-ltb, lt-ltb}
-use Rattle.std.specs.List.{slice_get}
-use Rattle.tables.specs.Looking.{early, first_row, front, middle, seek}
+-- The look-up: one halving after another, and then from row to row. Assumes nothing.
+use Rattle.std.proofs.Common.{◌≡◌, ℕ, zero, suc, ◌+◌, ◌-◌, ◌<◌, ◌≤◌, min, Bool, true, false, ◌&&◌, ltb, List, [], ◌∷◌, length, get_or, drop, Some, None, Option, Bor, sym, refl, ap, ◌∙◌, add-one, inl, inr, arith}
+use Rattle.std.proofs.lemmas.List.Sums.{take_while-cons}
+use Rattle.std.proofs.lemmas.Option.{slice_get-get_or, slice_get-map}
+use Rattle.std.proofs.lemmas.Bool.{and_from, cases_Bool, cases_lt, cond-true, cond-false, le-ltb, lt-ltb}
+use Rattle.std.specs.List.{slice_get, take_while}
+use Rattle.std.specs.Option.{option_map}
+use Rattle.planning.proofs.Lists.{nth_take}
+use Rattle.tables.specs.Books.{outcomes}
+use Rattle.tables.specs.Looking.{block, early, first_row, front, middle, seek}
 use Rattle.tables.specs.Places.{passes}
 use Rattle.tables.specs.Rows.{leads, precedes, targets}
+use Rattle.tables.specs.Spots.{within}
+use Rattle.tables.specs.Tables.{Table}
 use Rattle.tables.specs.declared.spot.Spot.{Spot}
 use Rattle.tables.specs.declared.row.TableRow.{TableRow}
+use Rattle.tables.proofs.Lists.{cond_same}
 
 -- what a read past the rows would give
 abbrev pub blank : TableRow
@@ -38,7 +44,7 @@ module _ (rows : List TableRow) (s : Spot) (a : ℕ) where
 
   -- the row halfway, as it is read
   module _ (low high : ℕ) (h : low < high) (fits : high ≤ length rows) where
-    pub early_at : early rows s a (middle low high) ≡ precedes (get_or rows (middle low high) blank).from (get_or rows (middle low high) blank).act s a
+    early_at : early rows s a (middle low high) ≡ precedes (get_or rows (middle low high) blank).from (get_or rows (middle low high) blank).act s a
     early_at = ap (passes (λ r. precedes r.from r.act s a)) (slice_get-get_or rows (middle low high) blank (omega arith))
 
   module _ (f low high : ℕ) (b : Bool) (h : low < high) (e : b ≡ precedes (get_or rows (middle low high) blank).from (get_or rows (middle low high) blank).act s a) where
@@ -59,31 +65,40 @@ module _ (rows : List TableRow) (s : Spot) (a : ℕ) where
   pub sought_all : Sought (first_row rows s a) 0 (length rows)
   sought_all = record { fits = omega arith; halvings = length rows; enough = omega arith; ends = refl }
 
+  -- the search ends within the rows, or just past them
+  seek_bound : (n low high : ℕ) → low ≤ high → seek rows s a n low high ≤ high
+  seek_bound zero low high l = l
+  seek_bound (suc n) low high l =
+      elim (cases_lt low high) [
+        | inl h ↦
+            elim (cases_Bool (early rows s a (middle low high))) [
+              | inl t ↦ let e = seek_up n low high h t in omega (arith, seek_bound n (middle low high + 1) high (omega arith))
+              | inr f ↦ let e = seek_down n low high h f in omega (arith, seek_bound n low (middle low high) (omega arith))
+            ]
+        | inr h ↦ let e = seek_none (suc n) low high h in omega arith
+      ]
+
+  pub first_bound : first_row rows s a ≤ length rows
+  first_bound = seek_bound (length rows) 0 (length rows) (omega arith)
+
   pub sought_none : (f low high : ℕ) → high ≤ low → Sought f low high → low ≡ f
   sought_none f low high h q = sym (seek_none q.halvings low high h) ∙ q.ends
 
-  -- where the row of number k leads, among those of the spot and act from place i on
-  abbrev pub target_from : ℕ → ℕ → Option Spot
-  target_from i k = slice_get (targets (front s a (drop i rows))) k
+-- the library's word for the rows with which a list begins
+front_is : (s : Spot) (a : ℕ) (rows : List TableRow) → front s a rows ≡ take_while (leads s a) rows
+front_is s a [] = refl
+front_is s a (r ∷ rs) = cond_same (leads s a r) (ap (λ xs. r ∷ xs) (front_is s a rs)) refl ∙ sym (take_while-cons (leads s a) r rs)
 
-  module _ (i k : ℕ) where
-    pub target_past : length rows ≤ i → target_from i k ≡ None
-    target_past h = at_drop_all (λ xs. slice_get (targets (front s a xs)) k) rows i h
+moved : (o : Option (Bor TableRow)) → option_map (λ r. r.now.to) o ≡ option_map (λ r. r.to) (option_map (λ r. r.now) o)
+moved None = refl
+moved (Some r) = refl
 
-    module _ (b : Bool) (h : i < length rows) (e : b ≡ leads s a (get_or rows i blank)) where
-      abbrev at : Bool → Option Spot
-      at c = slice_get (targets (cond c (get_or rows i blank ∷ front s a (drop (i + 1) rows)) [])) k
-
-      read : target_from i k ≡ at b
-      read = at_drop_more (λ xs. slice_get (targets (front s a xs)) k) rows i blank h ∙ ap at (sym e)
-
-      pub target_none : b ≡ false → target_from i k ≡ None
-      target_none t = read ∙ ap at t
-
-      pub target_here : b ≡ true → k ≡ 0 → target_from i k ≡ Some (get_or rows i blank).to
-      target_here t z = read ∙ ap at t ∙ ap (slice_get (targets (get_or rows i blank ∷ front s a (drop (i + 1) rows)))) z
-
-      pub target_more : b ≡ true → (k ≡ 0 → ⊥) → target_from i k ≡ target_from (i + 1) (k - 1)
-      target_more t z =
-          let p : k ≡ suc (k - 1) = omega arith in
-          read ∙ ap at t ∙ ap (slice_get (targets (get_or rows i blank ∷ front s a (drop (i + 1) rows)))) p
+-- the row of number n among those found leads to the outcome of that number
+pub outcome_at : (t : Table) (s : Spot) (a n : ℕ) (o : Option (Bor TableRow)) → within s ≡ true → a < min t.acts 16 → n < 8 → option_map (λ r. r.now) o ≡ slice_get (take_while (leads s a) (drop (first_row t.rows s a) t.rows)) n → option_map (λ r. r.now.to) o ≡ slice_get (outcomes t s a) n
+outcome_at t s a n o w l k h =
+    let found = block t.rows s a in
+    moved o
+    ∙ ap (option_map (λ r. r.to)) (h ∙ ap (λ rs. slice_get rs n) (sym (front_is s a (drop (first_row t.rows s a) t.rows))))
+    ∙ sym (slice_get-map (λ r. r.to) found n)
+    ∙ sym (nth_take 8 (targets found) n k)
+    ∙ ap (λ ss. slice_get ss n) (sym (cond-true (within s && ltb a (min t.acts 16)) _ _ (and_from (within s) (ltb a (min t.acts 16)) w (lt-ltb a (min t.acts 16) l))))

@@ -1,26 +1,10 @@
 -- Rows in order: a row never falls below any row before it. Assumes nothing.
-use Rattle.std.proofs.Common.{◌≡◌, ℕ, suc, ◌<◌, true, false, List, [], ◌∷◌, ◌++◌, take, Some, refl, inl, inr}
-use Rattle.std.proofs.lemmas.Bool.{both_ways, cases_Bool}
+use Rattle.std.proofs.Common.{◌≡◌, ℕ, suc, ◌<◌, true, false, List, [], ◌∷◌, ◌++◌, take, Some, refl, arith}
+use Rattle.std.proofs.lemmas.Bool.Decides.{nat_tests}
 use Rattle.std.specs.List.{AllByRecursion as All, slice_get}
-use Rattle.tables.specs.Rows.{falls, leads, precedes}
-use Rattle.tables.specs.declared.spot.Spot.{Spot}
+use Rattle.tables.specs.Rows.{falls, leads}
 use Rattle.tables.specs.declared.row.TableRow.{TableRow}
-use Rattle.tables.proofs.Keys.{alike_not_over, alike_not_under, else_over, not_under}
 use Rattle.tables.proofs.Lists.{Rising, all_parts, taken}
-
--- what does not come before a row does not come before what that row does not come before
-pub later : (s t u : Spot) (a b c : ℕ) → precedes s a t b ≡ false → precedes t b u c ≡ false → precedes s a u c ≡ false
-later s t u a b c = not_under s.zone s.level a t.zone t.level b u.zone u.level c
-
-module _ (s : Spot) (a : ℕ) (r : TableRow) where
-  pub leads_not_early : leads s a r ≡ true → precedes r.from r.act s a ≡ false
-  leads_not_early = alike_not_under r.from.zone r.from.level r.act s.zone s.level a
-
-  pub leads_not_late : leads s a r ≡ true → precedes s a r.from r.act ≡ false
-  leads_not_late = alike_not_over r.from.zone r.from.level r.act s.zone s.level a
-
-  pub leads_else : leads s a r ≡ false → precedes r.from r.act s a ≡ false → precedes s a r.from r.act ≡ true
-  leads_else = else_over r.from.zone r.from.level r.act s.zone s.level a
 
 -- no row falls below the row before it
 abbrev pub Ordered : List TableRow → Type 0
@@ -37,8 +21,10 @@ Sorted (r ∷ rs) = Above r rs × Sorted rs
 
 above_from : (r : TableRow) (qs : List TableRow) → ((q : TableRow) → slice_get qs 0 ≡ Some q → falls r q ≡ false) → Ordered qs → Above r qs
 above_from r [] h o = tt
-above_from r (q ∷ qs) h o =
-    (h q refl, above_from r qs (λ p e. later p.from q.from r.from p.act q.act r.act (o 0 q p refl e) (h q refl)) (λ i p p' e f. o (suc i) p p' e f))
+above_from r (q ∷ qs) h o = (
+  h q refl,
+  above_from r qs (λ p e. let f : falls q p ≡ false = o 0 q p refl e in let g : falls r q ≡ false = h q refl in grind (arith, nat_tests)) (λ i p p' e f. o (suc i) p p' e f),
+)
 
 pub sorted_from : (rows : List TableRow) → Ordered rows → Sorted rows
 sorted_from [] o = tt
@@ -69,14 +55,4 @@ sorted_rising (p ∷ ps) r s b = (λ t. between t ps s.0 b.1, sorted_rising ps r
   where
     between : leads r.from r.act p ≡ true → (qs : List TableRow) → Above p qs → Below qs r → All (λ q. leads r.from r.act q ≡ true) qs
     between t [] a d = tt
-    between t (q ∷ qs) a d =
-        let low : precedes q.from q.act r.from r.act ≡ false =
-        later q.from p.from r.from q.act p.act r.act a.0 (leads_not_early r.from r.act p t)
-        in
-        let here : leads r.from r.act q ≡ true =
-        elim (cases_Bool (leads r.from r.act q)) [
-          | inl e ↦ e
-          | inr e ↦ absurd (both_ways (falls q r) d.0 (leads_else r.from r.act q e low))
-        ]
-        in
-        (here, between t qs a.1 d.1)
+    between t (q ∷ qs) a d = (let here : leads r.from r.act q ≡ true = grind (arith, nat_tests) in here, between t qs a.1 d.1)

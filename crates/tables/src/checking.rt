@@ -1,7 +1,8 @@
 //! The checks that a table has to pass.
 
 ghost use Rattle.std.specs.Prelude.{◌≡◌, length};
-ghost use Rattle.tables.specs.Checking.{wrong_beside, wrong_here};
+ghost use Rattle.std.specs.Result.{result_err};
+ghost use Rattle.tables.specs.Checking.{wrong_here};
 ghost use Rattle.tables.specs.Places.{back};
 ghost use Rattle.tables.specs.Tables.{first_wrong, levels_fit, table_fault, table_of};
 
@@ -24,30 +25,30 @@ const ZONES: usize = 64;
 // The highest wanted level, which no spot reaches.
 const NEVER: u8 = 64;
 
-// The first fault of a table, in the order of the cases.
-pub(crate) fn first_fault(
+// Passes a table that is well made; else the first fault, in the order of the cases.
+pub(crate) fn check(
     acts: u8,
     start: Spot,
     wanted: &[u8],
     rows: &[TableRow],
-) -> Option<TableFault>
-    ensures { result ≡ table_fault (table_of acts start wanted.now rows.now) }
+) -> Result<(), TableFault>
+    ensures { result_err result ≡ table_fault (table_of acts start wanted.now rows.now) }
 {
     if acts > MOST_ACTS {
-        return Some(TableFault::Acts);
+        return Err(TableFault::Acts);
     }
     if !start.within() {
-        return Some(TableFault::Start);
+        return Err(TableFault::Start);
     }
     if !levels_fit(wanted) {
-        return Some(TableFault::Wanted);
+        return Err(TableFault::Wanted);
     }
     if rows.len() > MOST_ROWS {
-        return Some(TableFault::Rows);
+        return Err(TableFault::Rows);
     }
     match first_wrong(acts, rows) {
-        Some(i) => Some(TableFault::Row(i)),
-        None => None,
+        Some(i) => Err(TableFault::Row(i)),
+        None => Ok(()),
     }
 }
 
@@ -55,68 +56,32 @@ pub(crate) fn first_fault(
 fn levels_fit(wanted: &[u8]) -> bool
     ensures { result ≡ levels_fit wanted.now }
 {
-    if wanted.len() != ZONES {
-        return false;
-    }
-    for i in 0..wanted.len() {
-        if wanted[i] > NEVER {
-            return false;
-        }
-    }
-    true
+    wanted.len() == ZONES && wanted.iter().all(|level| *level <= NEVER)
 }
 
 // The place of the first wrong row.
 fn first_wrong(acts: u8, rows: &[TableRow]) -> Option<usize>
     ensures { result ≡ first_wrong acts rows.now 0 (length rows.now) }
 {
-    for i in 0..rows.len() {
-        if wrong_at(acts, rows, i) {
-            return Some(i);
-        }
-    }
-    None
+    (0..rows.len()).find(|i| is_wrong(acts, rows, *i))
 }
 
-// Whether the row at a place is wrong, seen from the rows one place and eight places before it.
-fn wrong_at(acts: u8, rows: &[TableRow], i: usize) -> bool
+// Whether the row at a place has a wrong field, falls below the row before it, or is the ninth of its spot and act: the
+// row eight places before is one of them too.
+fn is_wrong(acts: u8, rows: &[TableRow], i: usize) -> bool
     ensures { result ≡ wrong_here acts rows.now i }
 {
-    match rows.get(i).copied() {
-        Some(row) => wrong_beside(
-            acts,
-            back(rows, 1, i),
-            back(rows, MOST_OUTCOMES as usize, i),
-            row,
-        ),
-        None => false,
-    }
+    let Some(row) = rows.get(i) else {
+        return false;
+    };
+    !row.fits(acts)
+        || back(rows, 1, i).is_some_and(|last| row.key() < last.key())
+        || back(rows, usize::from(MOST_OUTCOMES), i).is_some_and(|eighth| eighth.key() == row.key())
 }
 
 // What stands that many places before.
 fn back(rows: &[TableRow], by: usize, i: usize) -> Option<TableRow>
     ensures { result ≡ back rows.now by i }
 {
-    if i < by {
-        return None;
-    }
-    rows.get(i - by).copied()
-}
-
-// Whether a row is wrong after the row just before it and the row eight places before it.
-fn wrong_beside(acts: u8, last: Option<TableRow>, eighth: Option<TableRow>, row: TableRow) -> bool
-    ensures { result ≡ wrong_beside acts last eighth row }
-{
-    if !row.fits(acts) {
-        return true;
-    }
-    if let Some(last) = last {
-        if row.precedes(last.from, last.act) {
-            return true;
-        }
-    }
-    match eighth {
-        Some(eighth) => eighth.leads(row.from, row.act),
-        None => false,
-    }
+    rows.get(i.checked_sub(by)?).copied()
 }

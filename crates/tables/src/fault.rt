@@ -1,10 +1,13 @@
 //! What is wrong with a table.
 
-ghost use Rattle.std.specs.Prelude.{◌≡◌};
-ghost use Rattle.tables.specs.Faults.{fault_number, fault_place};
+ghost use Rattle.std.specs.Prelude.{◌≡◌, Some};
+ghost use Rattle.tables.specs.Faults.{fault_number, fault_place, fault_text};
+
+use std::error::Error;
+use std::fmt;
 
 /// Why a table is refused. The first fault in the order of the cases is told.
-#[derive(Clone, Copy)]
+#[derive(Clone, Copy, Debug, PartialEq, Eq)]
 pub enum TableFault {
     /// More than 16 acts.
     Acts,
@@ -42,3 +45,16 @@ impl TableFault {
         }
     }
 }
+
+/// The fault in words, by its number and its place.
+impl fmt::Display for TableFault {
+    ghost output = { λ fault. Some (fault_text fault) };
+
+    fn fmt<W: fmt::Write>(&self, f: &mut fmt::Formatter<W>) -> fmt::Result {
+        let number = self.number();
+        let place = self.place();
+        write!(f, "stop {number} at place {place}")
+    }
+}
+
+impl Error for TableFault {}

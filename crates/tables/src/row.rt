@@ -1,14 +1,14 @@
 //! Rows: the moves of a table.
 
 ghost use Rattle.std.specs.Prelude.{◌≡◌};
-ghost use Rattle.tables.specs.Rows.{fits, leads, precedes};
+ghost use Rattle.tables.specs.Rows.{fits};
 
 use crate::spot::Spot;
 
 /// A move: the act may lead from the one spot to the other.
 ///
 /// Several rows of one spot and act are its outcomes, in the order of the rows.
-#[derive(Clone, Copy)]
+#[derive(Clone, Copy, Debug, PartialEq, Eq)]
 pub struct TableRow {
     /// The spot in which the act is done.
     pub from: Spot,
@@ -26,23 +26,20 @@ impl TableRow {
         self.from.within() && self.to.within() && self.act < acts
     }
 
-    // Whether this is a row of that spot and act.
-    pub(crate) fn leads(self, s: Spot, act: u8) -> bool
-        ensures { result ≡ leads s act self }
+    // What the row is looked up by.
+    pub(crate) fn key(self) -> Key
+        ensures { result ≡ record { from = self.from; act = self.act } }
     {
-        self.from.same(s) && self.act == act
+        Key {
+            from: self.from,
+            act: self.act,
+        }
     }
+}
 
-    // Whether this row's zone, level and act come before those given.
-    pub(crate) fn precedes(self, s: Spot, act: u8) -> bool
-        ensures { result ≡ precedes self.from self.act s act }
-    {
-        if self.from.zone != s.zone {
-            return self.from.zone < s.zone;
-        }
-        if self.from.level != s.level {
-            return self.from.level < s.level;
-        }
-        self.act < act
-    }
+// A spot and an act, by which rows are in order.
+#[derive(Clone, Copy, PartialEq, Eq, PartialOrd, Ord)]
+pub(crate) struct Key {
+    pub(crate) from: Spot,
+    pub(crate) act: u8,
 }

@@ -1,14 +1,12 @@
 //! The table and what it answers as a book.
 
 ghost use Rattle.std.specs.Prelude.{◌≡◌, is_ok, IfOk, Decides};
-ghost use Rattle.tables.specs.Books.{Faithful, held, table_meaning, told};
 ghost use Rattle.tables.specs.Tables.{WellMade, table_answer, table_of};
-ghost use Rattle.tables.specs.Laws.{table_lawful};
 
-use crate::checking::{MOST_ACTS, MOST_OUTCOMES, first_fault};
+use crate::checking::{MOST_ACTS, MOST_OUTCOMES, check};
 use crate::fault::TableFault;
-use crate::looking::{first_row, target};
-use crate::row::TableRow;
+use crate::looking::first_row;
+use crate::row::{Key, TableRow};
 use crate::spot::Spot;
 use planning::Book;
 
@@ -22,6 +20,8 @@ pub struct MoveTable<'a> {
 }
 
 impl<'a> MoveTable<'a> {
+    ghost use Rattle.tables.specs.Books.{Faithful, held, told};
+
     /// A table with that many acts, that start, the level wanted in each of the 64 zones, and those rows.
     ///
     /// Refused with the first fault, in the order of the cases of `TableFault`. Whatever is accepted answers for each
@@ -36,20 +36,21 @@ impl<'a> MoveTable<'a> {
         ensures accepted { Decides (is_ok result) (WellMade (table_of acts start wanted.now rows.now)) }
         ensures faithful { IfOk result (λ t. Faithful (held t)) }
     {
-        match first_fault(acts, start, wanted, rows) {
-            Some(fault) => Err(fault),
-            None => Ok(MoveTable {
-                acts,
-                start,
-                wanted,
-                rows,
-            }),
-        }
+        check(acts, start, wanted, rows)?;
+        Ok(MoveTable {
+            acts,
+            start,
+            wanted,
+            rows,
+        })
     }
 }
 
 /// What the table answers of spots.
-impl<'a> Book for MoveTable<'a> {
+impl Book for MoveTable<'_> {
+    ghost use Rattle.tables.specs.Books.{held, table_meaning};
+    ghost use Rattle.tables.specs.Laws.{table_lawful};
+
     type State = Spot;
 
     ghost meaning = { λ t. table_meaning (held t) };
@@ -64,24 +65,28 @@ impl<'a> Book for MoveTable<'a> {
         self.acts.min(MOST_ACTS)
     }
 
+    #[tactic(auto, using(crate::proofs::Seeking::first_bound))]
     fn outcome(&self, s: Spot, act: u8, number: u8) -> Option<Spot> {
         if !s.within() || act >= self.acts() || number >= MOST_OUTCOMES {
             return None;
         }
-        target(self.rows, first_row(self.rows, s, act), s, act, number)
+        let key = Key { from: s, act };
+        self.rows[first_row(self.rows, key)..]
+            .iter()
+            .take_while(|row| row.key() == key)
+            .nth(usize::from(number))
+            .map(|row| row.to)
     }
 
     fn goal(&self, s: Spot) -> bool {
-        if !s.within() {
-            return false;
-        }
-        match self.wanted.get(s.zone as usize).copied() {
-            Some(level) => level <= s.level,
-            None => false,
-        }
+        s.within()
+            && self
+                .wanted
+                .get(usize::from(s.zone))
+                .is_some_and(|level| *level <= s.level)
     }
 
     fn same(&self, s: Spot, t: Spot) -> bool {
-        s.same(t)
+        s == t
     }
 }

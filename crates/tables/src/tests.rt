@@ -1,6 +1,6 @@
 //! Tables at their limits, and what a small table answers.
 
-use crate::{MoveTable, Spot, TableRow};
+use crate::{MoveTable, Spot, TableFault, TableRow};
 use planning::{Book, find};
 use std::test::Fail;
 
@@ -19,11 +19,10 @@ fn row(zone: u8, level: u8, act: u8) -> TableRow {
 }
 
 // Number and place of the fault of a table; 0 and 0 for one that is accepted.
-fn judged<'a>(acts: u8, start: Spot, wanted: &'a [u8], rows: &'a [TableRow]) -> (u8, usize) {
-    match MoveTable::new(acts, start, wanted, rows) {
-        Ok(_) => (0, 0),
-        Err(fault) => (fault.number(), fault.place()),
-    }
+fn judged(acts: u8, start: Spot, wanted: &[u8], rows: &[TableRow]) -> (u8, usize) {
+    MoveTable::new(acts, start, wanted, rows)
+        .err()
+        .map_or((0, 0), |fault| (fault.number(), fault.place()))
 }
 
 // The same for rows alone, with two acts.
@@ -62,13 +61,10 @@ fn a_table_answers_as_a_book(rt: HostRuntime) -> Result<(), Fail> {
     let mut wanted = LEVELS;
     wanted[4] = 3;
     let rows = [row(2, 9, 0), row(3, 4, 1), row(3, 4, 1), row(3, 5, 0)];
-    let table = match MoveTable::new(2, spot(3, 4), &wanted, &rows) {
-        Ok(table) => table,
-        Err(_) => return Err(Fail::new("a table that is well made is refused")),
-    };
-    let Some(last) = table.outcome(table.start(), 1, 1) else {
-        return Err(Fail::new("the second outcome is missing"));
-    };
+    let table = MoveTable::new(2, spot(3, 4), &wanted, &rows)?;
+    let last = table
+        .outcome(table.start(), 1, 1)
+        .ok_or("the second outcome")?;
     assert!(rt; table.same(last, spot(4, 3)) && table.goal(last));
     assert!(rt; !table.goal(spot(4, 2)) && !table.goal(spot(4, 64)));
     assert!(rt; table.outcome(spot(3, 4), 1, 2).is_none());
@@ -77,5 +73,16 @@ fn a_table_answers_as_a_book(rt: HostRuntime) -> Result<(), Fail> {
         find(&table, &[spot(0, 0), spot(3, 4)], table.start()),
         Some(1)
     );
+    Ok(())
+}
+
+#[test]
+fn a_fault_in_words(rt: HostRuntime) -> Result<(), Fail> {
+    let Err(fault) = MoveTable::new(2, spot(0, 0), &LEVELS, &[row(0, 0, 0), row(0, 64, 0)]) else {
+        return Err(Fail::new("a row with a level over 63 is accepted"));
+    };
+    assert_eq!(rt; fault, TableFault::Row(1));
+    let text = fault.to_string(rt.alloc())?;
+    assert_eq!(rt; text.as_str(), "stop 8 at place 1");
     Ok(())
 }

@@ -10,17 +10,16 @@ use std::io::Write;
 // The printout of one sheet, under its name.
 fn show(rt: &HostRuntime, name: &str) -> anyhow::Result<()> {
     let path = format!(in rt.alloc(); "{name}.sheet")?;
-    let sheet = fs::read(rt, path.as_str())?;
-    let printout = print_sheet(rt.alloc(), sheet.as_slice())?;
+    let sheet = fs::read(rt, &path)?;
+    let printout = print_sheet(rt.alloc(), &sheet)?;
     println!(rt; "== {name}")?;
-    rt.stdout().write_all(printout.text.as_slice())?;
+    rt.stdout().write_all(printout.text())?;
     Ok(())
 }
 
 fn main(rt: HostRuntime) -> anyhow::Result<()> {
     for line in rt.lines(rt.alloc()) {
-        let name = line?;
-        show(&rt, name.as_str())?;
+        show(&rt, &line?)?;
     }
     Ok(())
 }

@@ -4,66 +4,54 @@
 
 mod tell;
 
-use anyhow::anyhow;
 use benches::ScriptBench;
 use knowledge::KnowledgeBook;
 use planning::Book;
-use session::{Answer, Bench, Call, Row, replay};
-use sheets::Sheet;
-use std::alloc::{AllocError, Global};
+use session::{Answer, BLANK, Bench, Call, replay};
+use std::io;
 use std::io::Read;
 use tell::tell;
-use worlds::{WorldBench, WorldStop};
+use worlds::WorldBench;
 
-// A list of eight places that hold `x`.
-fn filled<T: Copy>(heap: Global, x: T) -> Result<Vec<T>, AllocError> {
-    let mut places = Vec::new(heap);
-    for _ in 0..8 {
-        places.push(x)?;
-    }
-    Ok(places)
-}
+// One byte more than the longest sheet: enough to know that a sheet is too long.
+const ENOUGH: u64 = 16_385;
 
 // Work to the end, a start, and three steps.
-fn whole_walk<S: Copy>(heap: Global) -> Result<Vec<Call<S>>, AllocError> {
-    let mut calls = Vec::new(heap);
-    calls.push(Call::Work(u32::MAX))?;
-    calls.push(Call::Start(0))?;
-    for _ in 0..3 {
-        calls.push(Call::Step(0))?;
-    }
-    Ok(calls)
-}
+const WHOLE_WALK: [Call<u64>; 5] = [
+    Call::Work(u32::MAX),
+    Call::Start(0),
+    Call::Step(0),
+    Call::Step(0),
+    Call::Step(0),
+];
 
 // Plans in eight places, starts a walk at the first bench and steps three times, and tells what came of it.
-fn walk<B: Book, K: Bench<B>>(rt: &HostRuntime, book: &B, benches: &mut [K]) -> anyhow::Result<()> {
-    let blank = Row {
-        rank: None,
-        act: None,
-    };
-    let mut states = filled(rt.alloc(), book.start())?;
-    let mut rows = filled(rt.alloc(), blank)?;
-    let mut answers = filled(rt.alloc(), Answer::NoBench)?;
-    let calls = whole_walk(rt.alloc())?;
+fn walk<'a, K: Bench<KnowledgeBook<'a>>>(
+    rt: &impl Print,
+    book: &KnowledgeBook<'a>,
+    benches: &mut [K],
+) -> io::Result<()> {
+    let mut states = [book.start(); 8];
+    let mut rows = [BLANK; 8];
+    let mut answers = [Answer::NoBench; 5];
     let made = replay(
         book,
-        states.as_mut_slice(),
-        rows.as_mut_slice(),
-        calls.as_slice(),
+        &mut states,
+        &mut rows,
+        &WHOLE_WALK,
         benches,
-        answers.as_mut_slice(),
+        &mut answers,
     );
     for answer in answers.iter().take(made) {
         tell(rt, *answer)?;
     }
-    println!(rt)?;
-    Ok(())
+    println!(rt)
 }
 
 // Every script of two choices among two, and one that runs out.
-fn walk_scripts(rt: &HostRuntime, book: &KnowledgeBook<'_>) -> anyhow::Result<()> {
-    for first in 0..2u8 {
-        for second in 0..2u8 {
+fn walk_scripts(rt: &impl Print, book: &KnowledgeBook<'_>) -> io::Result<()> {
+    for first in 0..2 {
+        for second in 0..2 {
             println!(rt; "script {first} {second}")?;
             walk(rt, book, &mut [ScriptBench::new(book, &[first, second])])?;
         }
@@ -74,25 +62,22 @@ fn walk_scripts(rt: &HostRuntime, book: &KnowledgeBook<'_>) -> anyhow::Result<()
 
 // A world bench, if the valuation lies in the start cell.
 fn walk_world(
-    rt: &HostRuntime,
+    rt: &impl Print,
     book: &KnowledgeBook<'_>,
     valuation: u8,
     choice: u8,
-) -> anyhow::Result<()> {
+) -> io::Result<()> {
     println!(rt; "valuation {valuation}, byte {choice}")?;
     match WorldBench::new(book, valuation, choice) {
         Ok(bench) => walk(rt, book, &mut [bench]),
-        Err(WorldStop::Outside) => {
-            println!(rt; "outside the start cell: stop 17\n")?;
-            Ok(())
-        }
+        Err(stop) => println!(rt; "{stop}\n"),
     }
 }
 
 // Every valuation of two features, and one from 64 up, each with two bytes.
-fn walk_worlds(rt: &HostRuntime, book: &KnowledgeBook<'_>) -> anyhow::Result<()> {
-    for valuation in [0u8, 1, 2, 3, 64] {
-        for choice in 0..2u8 {
+fn walk_worlds(rt: &impl Print, book: &KnowledgeBook<'_>) -> io::Result<()> {
+    for valuation in [0, 1, 2, 3, 64] {
+        for choice in 0..2 {
             walk_world(rt, book, valuation, choice)?;
         }
     }
@@ -100,15 +85,10 @@ fn walk_worlds(rt: &HostRuntime, book: &KnowledgeBook<'_>) -> anyhow::Result<()>
 }
 
 fn main(rt: HostRuntime) -> anyhow::Result<()> {
-    let mut bytes = Vec::new(rt.alloc());
-    rt.stdin().take(16_385).read_to_end(&mut bytes)?;
-    match Sheet::read(bytes.as_slice()) {
-        Ok(sheet) => {
-            let book = KnowledgeBook::new(sheet);
-            walk_scripts(&rt, &book)?;
-            walk_worlds(&rt, &book)?;
-            Ok(())
-        }
-        Err(_) => Err(anyhow!("the sheet is refused")),
-    }
+    let mut sheet = Vec::new(rt.alloc());
+    rt.stdin().take(ENOUGH).read_to_end(&mut sheet)?;
+    let book = KnowledgeBook::read(&sheet)?;
+    walk_scripts(&rt, &book)?;
+    walk_worlds(&rt, &book)?;
+    Ok(())
 }

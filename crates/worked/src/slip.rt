@@ -3,21 +3,14 @@
 ghost use Rattle.std.specs.Prelude.{◌≡◌};
 ghost use Rattle.worked.specs.Worked.{slip};
 
+use crate::levels::{ORIGIN, wanted_from};
 use tables::{Spot, TableRow};
-
-// Where the table starts.
-const ORIGIN: Spot = Spot { zone: 0, level: 0 };
-
-// Levels that no spot reaches.
-const NEVER: [u8; 64] = [64; 64];
 
 /// Level 1 is wanted in zone 0.
 pub fn slip_wanted() -> [u8; 64]
     ensures { result ≡ slip.wanted }
 {
-    let mut wanted = NEVER;
-    wanted[0] = 1;
-    wanted
+    wanted_from(Spot { zone: 0, level: 1 })
 }
 
 /// An act that leads up by one level or does nothing.

@@ -1,5 +1,5 @@
 -- Which move an act makes, and where it leads. Assumes nothing.
-use Rattle.std.proofs.Common.{◌≡◌, ℕ, zero, suc, ◌%◌, ◌<◌, Bool, true, false, cond, T, List, [], ◌∷◌, length, is_some, Some, None, Option, sym, refl, ap, ◌∙◌, subst, mod-lt, arith}
+use Rattle.std.proofs.Common.{◌≡◌, ℕ, zero, suc, ◌%◌, ◌<◌, Bool, true, false, cond, T, List, [], ◌∷◌, length, Some, None, sym, refl, ap, ◌∙◌, subst, mod-lt, arith}
 use Rattle.std.specs.List.{slice_get}
 use Rattle.planning.specs.Ranks.{some_of}
 use Rattle.sheets.specs.Reading.{Parts}
@@ -11,11 +11,6 @@ use Rattle.knowledge.specs.Moves.{moves_at, class_outcome}
 use Rattle.knowledge.specs.declared.moves.Move.{Move}
 use Rattle.knowledge.proofs.Landing.{landed, some_move}
 use Rattle.worlds.specs.Worlds.{World, applicable, chosen, Happens}
-
--- a list has a first element exactly if it is not empty
-first_some : {X : Type 0} (xs : List X) → is_some (slice_get xs 0) ≡ some_of xs
-first_some [] = refl
-first_some (x ∷ xs) = refl
 
 -- each number below the length is that of an element
 numbered : {X : Type 0} (xs : List X) (k : ℕ) → k < length xs → (x : X) × (slice_get xs k ≡ Some x)
@@ -32,10 +27,6 @@ module _ (p : Parts) (w : World) (a : ℕ) where
 
   from_outcomes : (b : Bool) → applicable p w a ≡ b → chosen p w a ≡ cond b (slice_get moves (w.choice % length moves)) None
   from_outcomes b e = ap (λ t. cond t (slice_get moves (w.choice % length moves)) None) e
-
-  -- whether the act is applicable is told by its first outcome
-  pub by_first : (o : Option ℕ) (b : Bool) → o ≡ slice_get (outcomes_at p w.cell a) 0 → is_some o ≡ b → chosen p w a ≡ cond b (slice_get moves (w.choice % length moves)) None
-  by_first o b first is = from_outcomes b (sym (first_some (outcomes_at p w.cell a)) ∙ (ap is_some (sym first) ∙ is))
 
   -- a move that is chosen, and where it leads
   pub record Taken (m : Move) : Type 0 where

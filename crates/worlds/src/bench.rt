@@ -39,11 +39,9 @@ impl WorldBench {
     fn chosen(&self, book: &KnowledgeBook<'_>, act: u8) -> Option<Move>
         ensures { result ≡ chosen (content book.now) (seen self.now) act }
     {
-        if book.outcome(self.cell, act, 0).is_none() {
-            return None;
-        }
+        book.outcome(self.cell, act, 0)?;
         let count = book.moves(self.cell, self.valuation, act);
-        let number = self.choice as usize % count;
+        let number = usize::from(self.choice) % count;
         book.nth_move(self.cell, self.valuation, act, number)
     }
 }
@@ -73,6 +71,7 @@ impl<'a> Bench<KnowledgeBook<'a>> for WorldBench {
         ensures carried { Carried (book_meaning (content book.now)) (record { state = self.old.cell; ready = true }) act (carry_number result) (record { state = self.new.cell; ready = true }) }
         ensures refused { (e : CarryStop) → result ≡ Err e → self.new ≡ self.old }
     {
+        // Not by `ok_or` and `?`: a branch of its own shows that a refusal writes nothing.
         let Some(taken) = self.chosen(book, act) else {
             return Err(CarryStop::NotApplicable);
         };

@@ -15,28 +15,16 @@ const SWITCH: &[u8; 33] =
 const PATCH: &[u8; 53] =
     b"\x02\x03\x16\0\x08\0\x1e\0\x01\0\x1f\0\x0b\0\x2a\0\x05\0\x2f\0\x06\0\x03\0\0\0\0\0\0\0b\0\0\0\x01a\x01\0\0\x02!a\0\x02\x01\x01a\0\x02\0\x02!a";
 
-// The book of a sheet that is laid out right.
-fn book_of(sheet: &[u8]) -> Result<KnowledgeBook<'_>, Fail> {
-    match KnowledgeBook::read(sheet) {
-        Ok(book) => Ok(book),
-        Err(_) => Err(Fail::new("the sheet is refused")),
-    }
-}
-
 // Cell and valuation of a bench that is made with a byte and carries act 0, if it is made and carries it.
 fn carried(book: &KnowledgeBook<'_>, valuation: u8, choice: u8) -> Option<(u64, u8)> {
-    let Ok(mut bench) = WorldBench::new(book, valuation, choice) else {
-        return None;
-    };
-    match bench.carry(book, 0) {
-        Ok(()) => Some((bench.cell(), bench.valuation())),
-        Err(_) => None,
-    }
+    let mut bench = WorldBench::new(book, valuation, choice).ok()?;
+    bench.carry(book, 0).ok()?;
+    Some((bench.cell(), bench.valuation()))
 }
 
 #[test]
 fn the_byte_chooses(rt: HostRuntime) -> Result<(), Fail> {
-    let book = book_of(SWITCH)?;
+    let book = KnowledgeBook::read(SWITCH)?;
     assert_eq!(rt; carried(&book, 0, 0), Some((2, 1)));
     assert_eq!(rt; carried(&book, 1, 254), Some((2, 1)));
     assert_eq!(rt; carried(&book, 1, 255), Some((1, 0)));
@@ -48,21 +36,20 @@ fn the_byte_chooses(rt: HostRuntime) -> Result<(), Fail> {
 
 // The acts of a walk on a bench at a valuation, with the ranks that they lead to, up to the goal or to two of them.
 fn walked(valuation: u8) -> Result<[Option<(u8, u16)>; 3], Fail> {
-    let book = book_of(PATCH)?;
-    let Ok(mut bench) = WorldBench::new(&book, valuation, 0) else {
-        return Err(Fail::new("the valuation is outside the start cell"));
-    };
+    let book = KnowledgeBook::read(PATCH)?;
+    let mut bench = WorldBench::new(&book, valuation, 0)?;
     let mut states = [0; 4];
     let mut rows = [BLANK; 4];
     let mut session = Session::new(&book, &mut states, &mut rows);
     let _ = session.work(&book, 16);
+    // Not by `?`: the rank is asked for too.
     let Ok(2) = session.start(&book, &bench) else {
         return Err(Fail::new("the start has another rank"));
     };
     let mut acts = [None; 3];
-    for i in 0..3 {
+    for taken in &mut acts {
         if let Ok(Step::Acted { act, rank }) = session.step(&book, &mut bench) {
-            acts[i] = Some((act, rank));
+            *taken = Some((act, rank));
         }
     }
     Ok(acts)

@@ -11,6 +11,6 @@ returns g c =
     let m = g.B.Book.meaning c.args.book.now in
     let w = view c.work.new.self in
     IfOk-weaker c.session_lines.result (λ t. (u : ℕ) → Stands m u w → vec_items t ≡ all_lines m (places w) u) (λ t. vec_items t ≡ plan_text m)
-    (λ t h. planned m c.as_mut_slice.result.now c.as_mut_slice-2.result.now (view c.new-session.result) w c.work.result
-    (c.as_mut_slice.ensures.len ∙ c.in_ok-states.ensures) (c.as_mut_slice-2.ensures.len ∙ c.in_ok-rows.ensures) c.new-session.ensures c.work.ensures.worked (vec_items t) h)
+    (λ t h. planned m c.deref_mut.result.now c.deref_mut-2.result.now (view c.new-session.result) w c.work.result
+    (c.deref_mut.ensures.len ∙ c.in_ok-states.ensures.len) (c.deref_mut-2.ensures.len ∙ c.in_ok-rows.ensures.len) c.new-session.ensures c.work.ensures.worked (vec_items t) h)
     c.session_lines.ensures

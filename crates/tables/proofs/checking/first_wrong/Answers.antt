@@ -1,16 +1,14 @@
-use Rattle.tables.proofs.Judging.{found_wrong, unfound_all, unfound_more, unfound_none}
+use Rattle.std.proofs.Common.{refl, length, arith, rules, tests, ◌∙◌, sym}
+use Rattle.std.proofs.lemmas.Iterator.{YieldsList-from_range}
+use Rattle.std.proofs.lemmas.Iterator.Adapters.{option_map_id}
+use Rattle.std.proofs.lemmas.Iterator.Search.{find_from_yields_List}
+use Rattle.tables.specs.Checking.{wrong_here}
+use Rattle.tables.proofs.Judging.{found_first}
 use Rattle.tables.proofs.checking.first_wrong.Goals as goal
 
-pub loop-i-init : goal.loop-i-init
-loop-i-init c = unfound_none c.args.acts c.args.rows.now
-
-pub returns-then-wrong_at : goal.returns-then-wrong_at
-returns-then-wrong_at c =
-    found_wrong c.args.acts c.args.rows.now c.loop-i.i c.wrong_at.result c.loop-i-test.true c.wrong_at.ensures c.loop-i.invariant c.if-wrong_at.true
-
-pub loop-i-preserved : goal.loop-i-preserved
-loop-i-preserved c =
-    unfound_more c.args.acts c.args.rows.now c.loop-i.i c.wrong_at.result c.loop-i-test.true c.wrong_at.ensures c.loop-i.invariant c.if-wrong_at.false
-
 pub returns : goal.returns
-returns c = unfound_all c.args.acts c.args.rows.now c.loop-i.i c.loop-i-test.false c.loop-i.invariant
+returns c =
+    let rows = c.args.rows.now in
+    sym (option_map_id c.find.result)
+    ∙ find_from_yields_List (wrong_here c.args.acts rows) _ _ c.find.result c.find.ensures.ran (YieldsList-from_range 0 (length rows) (length rows) refl (omega arith)) (λ x b q k. search (rules, tests))
+    ∙ found_first c.args.acts rows 0 (length rows) (λ j h. absurd (omega arith))

@@ -1,17 +1,14 @@
-use Rattle.std.proofs.Common.{eqb, length, sym, ◌∙◌}
-use Rattle.std.proofs.lemmas.Bool.{and_from, and_right, eq-eqb}
-use Rattle.tables.proofs.Levels.{low_from, low_more, low_not, low_past}
+use Rattle.std.proofs.Common.{leb, rules, tests, length, ◌&&◌, sym, ap, ◌∙◌}
+use Rattle.std.proofs.lemmas.Bool.{eq-eqb}
+use Rattle.std.proofs.lemmas.Iterator.{YieldsList-from_slice}
+use Rattle.std.proofs.lemmas.Iterator.Search.{all_from_yields_List}
+use Rattle.planning.specs.Ranks.{every}
+use Rattle.tables.proofs.Lists.{every_is_all}
 use Rattle.tables.proofs.checking.levels_fit.Goals as goal
 
-pub returns-then-wanted-i-gt-NEVER : goal.returns-then-wanted-i-gt-NEVER
-returns-then-wanted-i-gt-NEVER c =
+pub returns-then-wanted-eq-ZONES : goal.returns-then-wanted-eq-ZONES
+returns-then-wanted-eq-ZONES c =
     let ws = c.args.wanted.now in
-    sym (and_right (eqb (length ws) 64) (low_from ws 0) (sym c.loop-i.invariant ∙ low_not ws c.loop-i.i c.loop-i-test.true c.if-wanted-i-gt-NEVER.true))
-
-pub loop-i-preserved : goal.loop-i-preserved
-loop-i-preserved c = sym (low_more c.args.wanted.now c.loop-i.i c.loop-i-test.true c.if-wanted-i-gt-NEVER.false) ∙ c.loop-i.invariant
-
-pub returns : goal.returns
-returns c =
-    let ws = c.args.wanted.now in
-    sym (and_from (eqb (length ws) 64) (low_from ws 0) (eq-eqb (length ws) 64 c.if-wanted-ne-ZONES.false) (sym c.loop-i.invariant ∙ low_past ws c.loop-i.i c.loop-i-test.false))
+    all_from_yields_List (λ w. leb w 64) _ _ _ c.all.ensures.ran (YieldsList-from_slice ws cc) (λ x b q k. search (rules, tests))
+    ∙ every_is_all (λ w. leb w 64) ws
+    ∙ sym (ap (λ b. b && every (λ w. leb w 64) ws) (eq-eqb (length ws) 64 c.if-wanted-eq-ZONES.true))

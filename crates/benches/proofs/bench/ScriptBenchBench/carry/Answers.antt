@@ -1,56 +1,21 @@
-use Rattle.std.proofs.Common.{◌≡◌, ◌+◌, ◌%◌, ◌<◌, length, get_or, drop, Some, None, sym, refl, ap, ◌∙◌, arith}
+use Rattle.std.proofs.Common.{◌≡◌, ◌%◌, length, drop, Ok, Some, ap, ◌∙◌, rules}
 use Rattle.std.specs.List.{slice_get}
-use Rattle.planning.specs.Ranks.{some_of}
-use Rattle.benches.proofs.Choosing.{ok_refuses, spent_carried, spent_answer, spent_leaves, none_carried, none_answer, none_leaves, never_past, took_answer, took_leaves, took_carried}
+use Rattle.std.proofs.lemmas.Iterator.Consumers.{YieldsList-from_first, count_from_yields_List, nth_from_yields_List}
+use Rattle.benches.specs.Scripts.{Script, carry_answer, carry_leaves, script}
+use Rattle.benches.proofs.Choosing.{carried, nth_is, took_leaves}
 use Rattle.benches.proofs.bench.ScriptBenchBench.carry.Goals as goal
 
-pub returns-then-self-ge64 : goal.returns-then-self-ge64
-returns-then-self-ge64 g c =
+pub returns-clause-carried : goal.returns-clause-carried
+returns-clause-carried g c =
     let m = g.B.Book.meaning c.args.book.now in
-    let law = g.met.B.Book.lawful c.args.book.now in
-    let k = c.args.self.now in
-    record {
-      carried = spent_carried m law k.state c.args.act k.choices k.next k.whole c.if-self-ge64.true;
-      refused = λ e q. refl;
-      answer = spent_answer m law k.state c.args.act k.choices k.next k.whole c.if-self-ge64.true;
-      leaves = spent_leaves m law k.state c.args.act k.choices k.next k.whole c.if-self-ge64.true;
-    }
-
-pub returns-then-count-eq0 : goal.returns-then-count-eq0
-returns-then-count-eq0 g c =
-    let m = g.B.Book.meaning c.args.book.now in
-    let law = g.met.B.Book.lawful c.args.book.now in
-    let k = c.args.self.now in
-    let low : k.next < 64 = c.if-self-ge64.false in
-    let none = sym c.outcomes-count.ensures ∙ c.if-count-eq0.true in
-    record {
-      carried = none_carried m law k.state c.args.act k.choices k.next k.whole low none;
-      refused = λ e q. refl;
-      answer = none_answer m law k.state c.args.act k.choices k.next k.whole low none;
-      leaves = none_leaves m law k.state c.args.act k.choices k.next k.whole low none;
-    }
-
-pub returns-in_default : goal.returns-in_default
-returns-in_default g c =
-    let m = g.B.Book.meaning c.args.book.now in
-    let law = g.met.B.Book.lawful c.args.book.now in
-    let k = c.args.self.now in
+    let k = script c.args.self.now in
     let os = m.outcomes k.state c.args.act in
-    let low : k.next < 64 = c.if-self-ge64.false in
-    let none : slice_get os (get_or k.choices k.next 0 % length os) ≡ None = ap (λ n. slice_get os (get_or k.choices k.next 0 % n)) (sym c.outcomes-count.ensures) ∙ sym c.outcome.ensures ∙ c.in_default.is in
-    absurd (never_past m law k.state c.args.act k.choices k.next k.whole low (λ e. omega (arith, c.if-count-eq0.false)) none)
-
-pub returns : goal.returns
-returns g c =
-    let m = g.B.Book.meaning c.args.book.now in
-    let law = g.met.B.Book.lawful c.args.book.now in
-    let k = c.args.self.now in
-    let os = m.outcomes k.state c.args.act in
-    let low : k.next < 64 = c.if-self-ge64.false in
-    let took : slice_get os (get_or k.choices k.next 0 % length os) ≡ Some c.in-Some.state = ap (λ n. slice_get os (get_or k.choices k.next 0 % n)) (sym c.outcomes-count.ensures) ∙ sym c.outcome.ensures ∙ c.in-Some.is in
-    record {
-      carried = took_carried m law k.state c.args.act k.choices k.next k.whole low c.in-Some.state took (some_of (drop (k.next + 1) k.choices));
-      refused = λ e q. absurd (ok_refuses e q);
-      answer = took_answer m law k.state c.args.act k.choices k.next k.whole low c.in-Some.state took;
-      leaves = took_leaves m law k.state c.args.act k.choices k.next k.whole low c.in-Some.state took;
-    }
+    let byte = c.in_ok-choice.field-0.now in
+    let after : Script _ = record { state = c.in_ok-self.field-0; bytes = c.remove.new.self.items } in
+    let answer : Ok tt ≡ carry_answer m k c.args.act = search rules in
+    let next : slice_get k.bytes 0 ≡ Some byte = search rules in
+    let count : c.count-count.result ≡ length os = count_from_yields_List c.new.result c.count-count.result c.count-count.ensures.ran (YieldsList-from_first (λ x. x) (λ o. drop o.number ((g.B.Book.meaning o.book.now).outcomes o.s o.act)) os c.new.ensures) in
+    let found = nth_from_yields_List c.nth.result c.nth.new.self _ c.nth.ensures.ran (YieldsList-from_first (λ x. x) (λ o. drop o.number ((g.B.Book.meaning o.book.now).outcomes o.s o.act)) os c.new-2.ensures) in
+    let nth : slice_get os (byte % c.count-count.result) ≡ Some c.in_ok-self.field-0 = nth_is os c.nth.result _ _ c.in_ok-self.field-0 c.in_ok-self.ensures.ok_part found (ap (λ b. b % c.count-count.result) c.from.ensures) in
+    let leaves : after ≡ carry_leaves m k c.args.act = ap (λ bs. record { state = c.in_ok-self.field-0; bytes = bs }) c.remove.ensures.items ∙ took_leaves k.state k.bytes os byte c.count-count.result c.in_ok-self.field-0 next count nth in
+    carried m (g.met.B.Book.lawful c.args.book.now) k after c.args.act answer leaves

@@ -9,6 +9,6 @@ pub returns : goal.returns
 returns c =
     let p = content c.args.self.now in
     record {
-      answer = c.nth_nonempty.ensures ∙ ap (λ xs. slice_get (filter nonempty xs) c.args.number) c.classes-classes.ensures ∙ ap (λ xs. slice_get xs c.args.number) (kept_classes p c.args.s c.args.act);
+      answer = c.nth_nonempty.ensures ∙ ap (λ xs. slice_get (filter nonempty xs) c.args.number) c.classes.ensures ∙ ap (λ xs. slice_get xs c.args.number) (kept_classes p c.args.s c.args.act);
       right = outcomes_right p c.args.s c.args.act;
     }

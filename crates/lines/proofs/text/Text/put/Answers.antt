@@ -1,15 +1,12 @@
-use Rattle.std.proofs.Common.{◌≡◌, ◌-◌, length, sym, ap, ◌∙◌, arith}
-use Rattle.std.proofs.lemmas.List.{length-take-le}
-use Rattle.lines.specs.Texts.{text}
-use Rattle.lines.proofs.Writing.{text_is}
+use Rattle.std.proofs.Common.{ap, length, sym, ◌∙◌, arith}
+use Rattle.std.proofs.lemmas.List.{take_all}
 use Rattle.lines.proofs.text.Text.put.Goals as goal
 
 pub returns : goal.returns
 returns c =
-    let bs = c.args.self.now.bytes in
-    let n = c.min-n.result in
-    let whole : length bs ≡ 64 = omega arith in
-    let e = text_is bs c.args.self.now.used n whole c.min-n.ensures in
-    let l : n ≡ length (text c.args.self.now) = sym (length-take-le n bs (omega arith)) ∙ ap length e in
-    let z : n - 0 ≡ n = omega arith in
-    record { answer = l; after = cc }
+    let n = c.len-n.ensures in
+    let whole = take_all 64 c.args.self.now.bytes.items (omega (arith, n.fits, n.value)) in
+    let copied = c.copy_from_slice.ensures.after in
+    let bytes = c.deref.ensures.0 in
+    let tells = n.value in
+    record { answer = tells ∙ ap length (sym whole); after = cc }

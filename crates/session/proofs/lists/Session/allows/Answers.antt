@@ -1,34 +1,17 @@
-use Rattle.std.proofs.Common.{◌≡◌, ◌+◌, ◌≤◌, ltb, length, sym, ap, ◌∙◌, arith}
+use Rattle.std.proofs.Common.{rules, drop, sym, ap, ◌∙◌}
+use Rattle.std.specs.Option.{is_some}
+use Rattle.std.proofs.lemmas.Iterator.Consumers.{YieldsList-from_first}
+use Rattle.std.proofs.lemmas.Iterator.Search.{all_from_yields_List}
+use borrow.Author.Tests.{tests}
 use Rattle.session.specs.Views.{view}
 use Rattle.session.specs.Judging.{told}
-use Rattle.planning.proofs.Lists.{place_past, place_below}
-use Rattle.session.proofs.Judged.{brings_no, brings_all, every_more}
+use Rattle.session.proofs.Judged.{all-brings}
 use Rattle.session.proofs.lists.Session.allows.Goals as goal
 
-pub returns-then-not-below : goal.returns-then-not-below
-returns-then-not-below g c =
-    let m = g.B.Book.meaning c.args.book.now in
-    sym (brings_no m (told m (view c.args.self.now) c.args.j) c.args.s c.args.act c.loop-number.number c.in-Some.o (sym c.outcome.ensures ∙ c.in-Some.is) (sym c.if-not-below.ensures))
-
-pub returns-in-None : goal.returns-in-None
-returns-in-None g c =
-    let m = g.B.Book.meaning c.args.book.now in
-    sym (brings_all m (told m (view c.args.self.now) c.args.j) c.args.s c.args.act c.loop-number.number c.loop-number.invariant.0 c.loop-number.invariant.1 (place_past (m.outcomes c.args.s c.args.act) c.loop-number.number (sym c.outcome.ensures ∙ c.in-None.is)))
-
-pub loop-number-preserved : goal.loop-number-preserved
-loop-number-preserved g c =
+pub returns-then-is_some : goal.returns-then-is_some
+returns-then-is_some g c =
     let m = g.B.Book.meaning c.args.book.now in
     let os = m.outcomes c.args.s c.args.act in
-    let e = sym c.outcome.ensures ∙ c.in-Some.is in
-    let h = place_below os c.loop-number.number c.in-Some.o e in
-    let k : c.loop-number.number + 1 ≤ length os = omega arith in
-    (every_more (told m (view c.args.self.now) c.args.j) os c.loop-number.number c.in-Some.o e c.loop-number.invariant.0 (sym c.if-not-below.ensures), k)
-
-pub returns : goal.returns
-returns g c =
-    let m = g.B.Book.meaning c.args.book.now in
-    let os = m.outcomes c.args.s c.args.act in
-    let few = (g.met.B.Book.lawful c.args.book.now).few_outcomes c.args.s c.args.act in
-    let n : c.loop-number.number ≡ 8 = omega arith in
-    let h = brings_all m (told m (view c.args.self.now) c.args.j) c.args.s c.args.act c.loop-number.number c.loop-number.invariant.0 c.loop-number.invariant.1 (omega arith) in
-    sym (h ∙ ap (ltb 0) n)
+    let p = told m (view c.args.self.now) c.args.j in
+    all_from_yields_List p c.all.new.self _ c.all.result c.all.ensures.ran (YieldsList-from_first (λ x. x) (λ o. drop o.number ((g.B.Book.meaning o.book.now).outcomes o.s o.act)) os c.new-outcomes.ensures) (λ x b q k. search (rules, tests))
+    ∙ all-brings m p c.args.s c.args.act (sym (ap is_some c.outcome.ensures) ∙ sym c.is_some.ensures ∙ c.if-is_some.true)

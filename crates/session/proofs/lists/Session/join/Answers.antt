@@ -1,13 +1,14 @@
-use Rattle.std.proofs.Common.{sym, refl, ◌∙◌, arith, rules}
+use Rattle.std.proofs.Common.{sym, ap, ◌∙◌, arith, rules}
+use Rattle.std.specs.Option.{is_some}
 use Rattle.session.specs.Views.{view}
 use Rattle.session.proofs.Joining.{join_there, join_full, join_new}
 use Rattle.session.proofs.lists.Session.join.Goals as goal
 
-pub returns-in-Some : goal.returns-in-Some
-returns-in-Some g c = record { lent = record { states = refl; rows = refl }; joins = join_there (g.B.Book.meaning c.args.book.now) c.args.s (view c.args.self.now) c.in-Some.field-0 (sym c.place.ensures ∙ c.in-Some.is) }
+pub returns-then-is_some-clause-joins : goal.returns-then-is_some-clause-joins
+returns-then-is_some-clause-joins g c = join_there (g.B.Book.meaning c.args.book.now) c.args.s (view c.args.self.now) (sym (ap is_some c.place.ensures) ∙ sym c.is_some.ensures ∙ c.if-is_some.true)
 
-pub returns-then-listed-places-2 : goal.returns-then-listed-places-2
-returns-then-listed-places-2 g c = record { lent = record { states = refl; rows = refl }; joins = join_full (g.B.Book.meaning c.args.book.now) c.args.s (view c.args.self.now) (sym c.place.ensures ∙ c.in_default.is) (omega arith) }
+pub returns-then-listed-places-2-clause-joins : goal.returns-then-listed-places-2-clause-joins
+returns-then-listed-places-2-clause-joins g c = join_full (g.B.Book.meaning c.args.book.now) c.args.s (view c.args.self.now) (sym (ap is_some c.place.ensures) ∙ sym c.is_some.ensures ∙ c.if-is_some.false) (omega arith)
 
-pub returns : goal.returns
-returns g c = record { lent = record { states = refl; rows = refl }; joins = join_new (g.B.Book.meaning c.args.book.now) c.args.s (view c.args.self.now) c.fresh_row.result (sym c.place.ensures ∙ c.in_default.is) (search rules) c.fresh_row.ensures }
+pub returns-clause-joins : goal.returns-clause-joins
+returns-clause-joins g c = join_new (g.B.Book.meaning c.args.book.now) c.args.s (view c.args.self.now) c.fresh_row.result (sym (ap is_some c.place.ensures) ∙ sym c.is_some.ensures ∙ c.if-is_some.false) (search rules) c.fresh_row.ensures

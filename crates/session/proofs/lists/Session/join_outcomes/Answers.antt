@@ -1,28 +1,32 @@
-use Rattle.std.proofs.Common.{true, sym, ◌∙◌, arith}
+use Rattle.std.proofs.Common.{true, [], ◌∷◌, ◌++◌, drop, ap, sym, ◌∙◌}
 use Rattle.session.specs.Views.{view}
-use Rattle.planning.proofs.Lists.{place_past}
-use Rattle.session.proofs.Chains.{all_joined, next_joined, next_stopped}
-use Rattle.session.proofs.Lending.{lists_on}
+use Rattle.session.proofs.Chains.{all_joined, joins_on, left_on, none_joined, outcome_stopped}
+use Rattle.session.proofs.Lending.{lists_on, lists_same}
 use Rattle.session.proofs.lists.Session.join_outcomes.Goals as goal
+
+pub loop-o-init : goal.loop-o-init
+loop-o-init g c =
+    let left = ap (λ o. drop o.number ((g.B.Book.meaning o.book.now).outcomes o.s o.act)) c.into_iter-o-iterator.ensures.into_iter_gives ∙ c.new-o-items.ensures in
+    record { lent = lists_same _; joins = none_joined (g.B.Book.meaning c.args.book.now) (view c.args.self.now); left = left }
 
 pub returns-then-not-join : goal.returns-then-not-join
 returns-then-not-join g c =
     let m = g.B.Book.meaning c.args.book.now in
-    record { lent = lists_on c.args.self.now c.loop-number.self c.join.new.self c.loop-number.invariant.0 c.if-not-join.ensures.lent; joins = next_stopped m (m.outcomes c.args.s c.args.act) c.loop-number.number (view c.args.self.now) (view c.loop-number.self) c.loop-number.invariant.1 c.in-Some.o (view c.join.new.self) (sym c.outcome.ensures ∙ c.in-Some.is) c.if-not-join.ensures.joins }
+    record {
+      lent = lists_on c.args.self.now c.loop-o.self c.join.new.self c.loop-o.invariant.lent c.if-not-join.ensures.lent;
+      joins = outcome_stopped m c.loop-o.yielded c.in-Some.o _ (m.outcomes c.args.s c.args.act) (view c.args.self.now) (view c.loop-o.self) (view c.join.new.self) (ap (λ xs. c.loop-o.yielded ++ xs) (sym c.in-Some.ensures.steps) ∙ c.loop-o.invariant.left) c.loop-o.invariant.joins c.if-not-join.ensures.joins;
+    }
 
-pub returns-in-None : goal.returns-in-None
-returns-in-None g c =
+pub loop-o-preserved : goal.loop-o-preserved
+loop-o-preserved g c =
     let m = g.B.Book.meaning c.args.book.now in
-    let os = m.outcomes c.args.s c.args.act in
-    record { lent = c.loop-number.invariant.0; joins = all_joined m os c.loop-number.number (view c.args.self.now) (view c.loop-number.self) c.loop-number.invariant.1 (place_past os c.loop-number.number (sym c.outcome.ensures ∙ c.in-None.is)) }
-
-pub loop-number-preserved : goal.loop-number-preserved
-loop-number-preserved g c =
-    let m = g.B.Book.meaning c.args.book.now in
-    (lists_on c.args.self.now c.loop-number.self c.join.new.self c.loop-number.invariant.0 c.if-not-join.ensures.lent, next_joined m (m.outcomes c.args.s c.args.act) c.loop-number.number (view c.args.self.now) (view c.loop-number.self) c.loop-number.invariant.1 c.in-Some.o (view c.join.new.self) true (sym c.outcome.ensures ∙ c.in-Some.is) c.if-not-join.ensures.joins)
+    record {
+      lent = lists_on c.args.self.now c.loop-o.self c.join.new.self c.loop-o.invariant.lent c.if-not-join.ensures.lent;
+      joins = joins_on m c.loop-o.yielded (c.in-Some.o ∷ []) (view c.args.self.now) (view c.loop-o.self) (view c.join.new.self) true c.loop-o.invariant.joins c.if-not-join.ensures.joins;
+      left = left_on m c.loop-o.yielded c.in-Some.o _ _ _ c.in-Some.ensures.steps c.loop-o.invariant.left;
+    }
 
 pub returns : goal.returns
 returns g c =
     let m = g.B.Book.meaning c.args.book.now in
-    let os = m.outcomes c.args.s c.args.act in
-    record { lent = c.loop-number.invariant.0; joins = all_joined m os c.loop-number.number (view c.args.self.now) (view c.loop-number.self) c.loop-number.invariant.1 (let h = (g.met.B.Book.lawful c.args.book.now).few_outcomes c.args.s c.args.act in omega arith) }
+    record { lent = c.loop-o.invariant.lent; joins = all_joined m c.loop-o.yielded _ (m.outcomes c.args.s c.args.act) (view c.args.self.now) (view c.loop-o.self) c.in-None.ensures.steps.0 c.loop-o.invariant.left c.loop-o.invariant.joins }

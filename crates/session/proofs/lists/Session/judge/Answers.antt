@@ -1,16 +1,15 @@
-use Rattle.std.proofs.Common.{sym, ◌∙◌, arith}
+use Rattle.std.proofs.Common.{arith, rules}
+use Rattle.std.proofs.lemmas.Iterator.{YieldsList-from_range}
+use Rattle.std.proofs.lemmas.Iterator.Search.{find_from_yields_List}
+use borrow.Author.Tests.{tests}
 use Rattle.planning.specs.Ranks.{brings}
 use Rattle.session.specs.Views.{view}
 use Rattle.session.specs.Judging.{told}
-use Rattle.session.proofs.Judged.{first_hit, first_miss}
+use Rattle.session.proofs.Judged.{find-first_act}
 use Rattle.session.proofs.lists.Session.judge.Goals as goal
 
-pub returns-then-allows : goal.returns-then-allows
-returns-then-allows g c =
+pub returns : goal.returns
+returns g c =
     let m = g.B.Book.meaning c.args.book.now in
-    sym (first_hit (brings m (told m (view c.args.self.now) c.args.j) c.args.s) c.loop-act.act m.acts (omega arith) (sym c.if-allows.ensures)) ∙ c.loop-act.invariant
-
-pub loop-act-preserved : goal.loop-act-preserved
-loop-act-preserved g c =
-    let m = g.B.Book.meaning c.args.book.now in
-    sym (first_miss (brings m (told m (view c.args.self.now) c.args.j) c.args.s) c.loop-act.act m.acts (omega arith) (sym c.if-allows.ensures)) ∙ c.loop-act.invariant
+    let f = brings m (told m (view c.args.self.now) c.args.j) c.args.s in
+    find-first_act f c.find.result m.acts (find_from_yields_List f _ _ c.find.result c.find.ensures.ran (YieldsList-from_range 0 m.acts m.acts (cc) (omega arith)) (λ x b q k. search (rules, tests)))

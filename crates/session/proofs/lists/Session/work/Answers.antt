@@ -10,24 +10,24 @@ pub returns-then-not-working : goal.returns-then-not-working
 returns-then-not-working g c =
     let m = g.B.Book.meaning c.args.book.now in
     let v = view c.args.self.now in
-    let w = view c.loop-done.self in
+    let w = view c.loop-unit.self in
     let law = g.met.B.Book.lawful c.args.book.now in
-    let idle = went_idle m c.loop-done.done c.args.quota v w c.loop-done.invariant.1.1 c.loop-done.invariant.1.0 (works_false w.plain.progress.standing (sym c.if-not-working.ensures)) in
-    record { lent = c.loop-done.invariant.0; worked = worked m c.args.quota v w idle; course = course m law; portions = portions m }
+    let idle = went_idle m c.loop-unit._unit c.args.quota v w c.loop-unit.invariant.1.1 c.loop-unit.invariant.1.0 (works_false w.plain.progress.standing (sym c.if-not-working.ensures)) in
+    record { lent = c.loop-unit.invariant.0; worked = worked m c.args.quota v w idle; course = course m law; portions = portions m }
 
-pub loop-done-preserved : goal.loop-done-preserved
-loop-done-preserved g c =
+pub loop-unit-preserved : goal.loop-unit-preserved
+loop-unit-preserved g c =
     let m = g.B.Book.meaning c.args.book.now in
     let v = view c.args.self.now in
-    let w = view c.loop-done.self in
-    let l : c.loop-done.done + 1 ≤ c.args.quota = omega arith in
-    (lists_on c.args.self.now c.loop-done.self c.unit.new.self c.loop-done.invariant.0 c.unit.ensures.lent, (went_more m c.loop-done.done v w (view c.unit.new.self) c.loop-done.invariant.1.0 (works_true w.plain.progress.standing (sym c.if-not-working.ensures)) c.unit.ensures.moves, l))
+    let w = view c.loop-unit.self in
+    let l : c.loop-unit._unit + 1 ≤ c.args.quota = omega arith in
+    (lists_on c.args.self.now c.loop-unit.self c.unit.new.self c.loop-unit.invariant.0 c.unit.ensures.lent, (went_more m c.loop-unit._unit v w (view c.unit.new.self) c.loop-unit.invariant.1.0 (works_true w.plain.progress.standing (sym c.if-not-working.ensures)) c.unit.ensures.moves, l))
 
 pub returns : goal.returns
 returns g c =
     let m = g.B.Book.meaning c.args.book.now in
     let law = g.met.B.Book.lawful c.args.book.now in
     let v = view c.args.self.now in
-    let w = view c.loop-done.self in
-    let e : c.loop-done.done ≡ c.args.quota = omega (arith, c.loop-done.invariant.1.1) in
-    record { lent = c.loop-done.invariant.0; worked = worked m c.args.quota v w (subst (λ d. Went m d v w) e c.loop-done.invariant.1.0); course = course m law; portions = portions m }
+    let w = view c.loop-unit.self in
+    let e : c.loop-unit._unit ≡ c.args.quota = omega (arith, c.loop-unit.invariant.1.1) in
+    record { lent = c.loop-unit.invariant.0; worked = worked m c.args.quota v w (subst (λ d. Went m d v w) e c.loop-unit.invariant.1.0); course = course m law; portions = portions m }

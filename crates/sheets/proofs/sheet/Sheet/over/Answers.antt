@@ -7,4 +7,4 @@ use Rattle.sheets.proofs.sheet.Sheet.over.Goals as goal
 
 pub returns : goal.returns
 returns c =
-    same_parts c.byte.ensures (c.start_mask.ensures ∙ ap mask_of c.find_section.ensures) c.find_section-2.ensures (acts_same c.args.bytes.now c.byte-2.result ∙ ap (λ a. map (λ k. events_of (section_bytes c.args.bytes.now k)) (range_with_len 2 a)) c.byte-2.ensures)
+    same_parts c.features.ensures (c.start_mask.ensures ∙ ap mask_of c.section.ensures) c.section-2.ensures (acts_same c.args.header.sheet.now c.acts.result ∙ ap (λ a. map (λ k. events_of (section_bytes c.args.header.sheet.now k)) (range_with_len 2 a)) c.acts.ensures)

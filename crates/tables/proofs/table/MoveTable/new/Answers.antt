@@ -1,20 +1,20 @@
-use Rattle.std.proofs.Common.{Some, None, refl}
+use Rattle.std.proofs.Common.{refl}
 use Rattle.std.proofs.lemmas.Bool.{false≢true}
+use Rattle.std.proofs.lemmas.Result.{err_from_is_err_and}
 use Rattle.tables.specs.Tables.{table_of}
-use Rattle.tables.proofs.Making.{accepted, answered, refused}
+use Rattle.tables.proofs.Making.{faithful, refused, well_from}
 use Rattle.tables.proofs.table.MoveTable.new.Goals as goal
 
-pub returns-in-Some : goal.returns-in-Some
-returns-in-Some c =
+pub returns-in_err-check-clause-accepted : goal.returns-in_err-check-clause-accepted
+returns-in_err-check-clause-accepted c =
     let t = table_of c.args.acts c.args.start c.args.wanted.now c.args.rows.now in
-    record {
-      answer = answered t (Some c.in-Some.fault) c.in-Some.ensures;
-      accepted = (λ e. absurd (false≢true e), λ w. absurd (refused t c.in-Some.fault c.in-Some.ensures w));
-      faithful = tt;
-    }
+    let p = err_from_is_err_and c.from_residual.result c.from_residual.ensures.1 in
+    rw p.1 (λ e. absurd (false≢true e), λ w. absurd (refused t c.in_err-check.field-0.0 c.in_err-check.ensures w))
 
-pub returns-in-None : goal.returns-in-None
-returns-in-None c =
-    let t = table_of c.args.acts c.args.start c.args.wanted.now c.args.rows.now in
-    let h = accepted t c.in-None.ensures in
-    record { answer = answered t None c.in-None.ensures; accepted = (λ _. h.0, λ _. refl); faithful = h.1 }
+pub returns-clause-accepted : goal.returns-clause-accepted
+returns-clause-accepted c =
+    let t = table_of c.args.acts c.args.start c.args.wanted.now c.args.rows.now in (λ _. well_from t c.in_ok-check.ensures, λ _. refl)
+
+pub returns-clause-faithful : goal.returns-clause-faithful
+returns-clause-faithful c =
+    let t = table_of c.args.acts c.args.start c.args.wanted.now c.args.rows.now in faithful t (well_from t c.in_ok-check.ensures)
