@@ -43,6 +43,7 @@ impl<S: Copy, B: Book<State = S>> Bench<B> for ScriptBench<S> {
         !self.choices.is_empty()
     }
 
+    // The clauses `carried` and `refused` are the trait's: a method that promises more has to say them too.
     fn carry(&mut self, book: &B, act: u8) -> Result<(), CarryStop>
         ensures carried { Carried (B.meaning book.now) (post (script self.old)) act (carry_number result) (post (script self.new)) }
         ensures refused { (e : CarryStop) → result ≡ Err e → self.new ≡ self.old }

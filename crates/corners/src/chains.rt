@@ -32,9 +32,10 @@ fn eights(heap: Global, count: usize) -> Result<Vec<TableRow>, AllocError> {
         .collect(heap)
 }
 
-// What becomes of a table of so many rows.
+// What becomes of a table of so many rows. (Of one that is accepted `tell_count` tells the plan too.)
 fn tell_size(rt: &(impl Print + AllocGlobal), count: usize) -> anyhow::Result<()> {
     let rows = eights(rt.alloc(), count)?;
+    // Not by `?`: the report tells a refusal and goes on.
     match table(&NEVER, &rows) {
         Ok(_) => println!(rt; "A table with {count} rows is accepted.")?,
         Err(fault) => println!(rt; "A table with {count} rows: {fault}.")?,

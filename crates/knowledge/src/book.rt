@@ -79,6 +79,7 @@ impl<'a> KnowledgeBook<'a> {
         ensures answer { result ≡ length (moves_at (content self.now) cell valuation act) }
         ensures some { (outcomes_at (content self.now) cell act ≢ []) → T (bit cell valuation) → 0 < result }
     {
+        // Not by `map_or`: what `count` asks in its closure does not prove.
         let Some((cell, bytes)) = self.asked(cell, act) else {
             return 0;
         };

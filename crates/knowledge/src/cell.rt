@@ -27,6 +27,7 @@ impl Cell {
         ensures some { is_some result ≡ fit letters mask }
         ensures cell { (c : Cell) → result ≡ Some c → (c.letters ≡ letters) × (c.mask ≡ mask) }
     {
+        // Not by `then`: its closure is not told the test, which makes a cell of the mask.
         if letters == 6 || mask >> (1u32 << letters) == 0 {
             Some(Cell { letters, mask })
         } else {

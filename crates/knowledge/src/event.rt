@@ -16,7 +16,7 @@ impl Cell {
         ensures { result ≡ image (moved self.letters (event_of self.letters (entry event.entry))) self.mask (2 ^ self.letters) }
     {
         let mut moved = self.mask;
-        // Not by `fold`: `changed` asks that `i` is a letter, which its closure is not told.
+        // Not by `fold`: its closure is not told that `i` is a letter, and would have to test it.
         for i in 0..self.letters {
             moved = changed(event, i, moved);
         }

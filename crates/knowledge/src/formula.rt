@@ -47,11 +47,11 @@ pub fn evaluate<'a>(cell: u64, letters: u8, text: &'a [u8]) -> (u64, &'a [u8])
         }
         b'K' => {
             let (inner, rest) = evaluate(cell, letters, rest);
-            (known(cell, inner), rest)
+            (whole_if(cell, inner == cell), rest)
         }
         b'M' => {
             let (inner, rest) = evaluate(cell, letters, rest);
-            (possibly(cell, inner), rest)
+            (whole_if(cell, inner != 0), rest)
         }
         b'&' => {
             let (left, rest) = evaluate(cell, letters, rest);
@@ -67,18 +67,11 @@ pub fn evaluate<'a>(cell: u64, letters: u8, text: &'a [u8]) -> (u64, &'a [u8])
     }
 }
 
-// The whole cell if the mask is all of it, else nothing.
-fn known(cell: u64, inner: u64) -> u64
-    ensures { result ≡ (if nat_eq inner cell then cell else 0) }
+// The whole cell if something holds of it, else nothing.
+fn whole_if(cell: u64, holds: bool) -> u64
+    ensures { result ≡ (if holds then cell else 0) }
 {
-    if inner == cell { cell } else { 0 }
-}
-
-// The whole cell if the mask has a valuation, else nothing. Beside `known`: each is one test, and the tests differ.
-fn possibly(cell: u64, inner: u64) -> u64
-    ensures { result ≡ (if nat_eq inner 0 then 0 else cell) }
-{
-    if inner == 0 { 0 } else { cell }
+    if holds { cell } else { 0 }
 }
 
 // The valuations of the cell at which a byte holds that governs nothing.

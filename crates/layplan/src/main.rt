@@ -6,12 +6,10 @@
 mod tests;
 
 use printout::print_sheet;
+use sheets::ENOUGH;
 use std::alloc::Global;
 use std::io::{Read, Write};
 use std::process::ExitCode;
-
-// One byte more than the longest sheet: enough to know that a sheet is too long.
-const ENOUGH: u64 = 16_385;
 
 // Reads a sheet and writes what there is to say of it, all at once; whether the sheet was accepted.
 fn run<R: Read + Drop, W: Write>(heap: Global, input: R, output: &mut W) -> anyhow::Result<bool> {

@@ -57,6 +57,7 @@ pub fn line<B: Book>(
 ) -> Result<usize, LineStop>
     ensures { Printed (B.meaning book.now) index (view session.now) buffer.old result buffer.new }
 {
+    // A buffer of the caller's and a length, since nothing here allocates.
     if buffer.len() < ROOM {
         return Err(LineStop::Short);
     }

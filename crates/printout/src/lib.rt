@@ -46,6 +46,7 @@ pub fn print_sheet(heap: Global, bytes: &[u8]) -> Result<Printout, AllocError>
     ensures text { IfOk result (λ p. text_of p ≡ printed bytes.now) }
     ensures accepted { IfOk result (λ p. is_plan p ≡ accepts bytes.now) }
 {
+    // Not by `?`: a refusal is printed here, and is no refusal of this call.
     match KnowledgeBook::read(bytes) {
         Ok(book) => print_plan(heap, &book).map(Printout::Plan),
         Err(fault) => format!(in heap; "{fault}\n").map(Printout::Stop),

@@ -34,6 +34,7 @@ fn session_lines<B: Book>(
     ensures { IfOk result (λ t. ((u : ℕ) → Stands (B.meaning book.now) u (view session.now) → t.items ≡ all_lines (B.meaning book.now) (places (view session.now)) u)) }
 {
     let mut text = Vec::new(heap);
+    // By number, since the number says which line it is.
     for index in 0..=session.states().len() {
         add_line(&mut text, book, session, index)?;
     }
@@ -50,6 +51,7 @@ fn add_line<B: Book>(
     ensures { OnOk result (((u : ℕ) → Stands (B.meaning book.now) u (view session.now) → text.new.items ≡ text.old.items ++ line_text (B.meaning book.now) (places (view session.now)) u index)) }
 {
     let mut buffer = [0; 64];
+    // A line is refused only while the search works, and then there is none to add.
     if let Ok(n) = line(session, book, index, &mut buffer) {
         text.extend_from_slice(&buffer[..n])?;
     }

@@ -1,6 +1,6 @@
 //! Expanding a place: the outcomes of its state join the list.
 
-ghost use Rattle.std.specs.Prelude.{◌≡◌, ◌<◌, [], ◌∷◌};
+ghost use Rattle.std.specs.Prelude.{◌≡◌, ◌<◌, [], ◌∷◌, is_ok};
 ghost use Rattle.planning.specs.Finding.{outcomes_from};
 ghost use Rattle.session.specs.ClosedForm.{row_by};
 ghost use Rattle.session.specs.Joins.{Joins};
@@ -21,53 +21,53 @@ pub(crate) fn fresh_row<B: Book>(book: &B, s: B::State) -> Row
     }
 }
 
+// That there is no place for a state.
+#[derive(Clone, Copy)]
+struct NoPlace;
+
 impl<'a, S: Copy> Session<'a, S> {
-    // Joins s unless a same state is listed; false if there is no place for it.
-    fn join<B: Book<State = S>>(&mut self, book: &B, s: S) -> bool
-        ensures joins { Joins (B.meaning book.now) (s ∷ []) (view self.old) result (view self.new) }
+    // Joins s unless a same state is listed.
+    fn join<B: Book<State = S>>(&mut self, book: &B, s: S) -> Result<(), NoPlace>
+        ensures joins { Joins (B.meaning book.now) (s ∷ []) (view self.old) (is_ok result) (view self.new) }
         ensures lent { SameLists self.old self.new }
     {
-        let listed = self.record.listed as usize;
+        let listed = usize::from(self.record.listed);
         if listed > self.places() {
-            return false;
+            return Err(NoPlace);
         }
         if self.place(book, s).is_some() {
-            return true;
+            return Ok(());
         }
         if listed == self.places() {
-            return false;
+            return Err(NoPlace);
         }
         self.states[listed] = s;
         self.rows[listed] = fresh_row(book, s);
         self.record.listed += 1;
-        true
+        Ok(())
     }
 
-    // Joins the outcomes of one act; false if there is no place for one.
-    fn join_outcomes<B: Book<State = S>>(&mut self, book: &B, s: S, act: u8) -> bool
-        ensures joins { Joins (B.meaning book.now) ((B.meaning book.now).outcomes s act) (view self.old) result (view self.new) }
+    // Joins the outcomes of one act.
+    fn join_outcomes<B: Book<State = S>>(&mut self, book: &B, s: S, act: u8) -> Result<(), NoPlace>
+        ensures joins { Joins (B.meaning book.now) ((B.meaning book.now).outcomes s act) (view self.old) (is_ok result) (view self.new) }
         ensures lent { SameLists self.old self.new }
     {
         for o in Outcomes::new(book, s, act) {
-            if !self.join(book, o) {
-                return false;
-            }
+            self.join(book, o)?;
         }
-        true
+        Ok(())
     }
 
-    // Joins the outcomes of all acts; false if there is no place for one.
-    fn expand<B: Book<State = S>>(&mut self, book: &B, s: S) -> bool
-        ensures joins { Joins (B.meaning book.now) (outcomes_from (B.meaning book.now) s 0 (B.meaning book.now).acts) (view self.old) result (view self.new) }
+    // Joins the outcomes of all acts.
+    fn expand<B: Book<State = S>>(&mut self, book: &B, s: S) -> Result<(), NoPlace>
+        ensures joins { Joins (B.meaning book.now) (outcomes_from (B.meaning book.now) s 0 (B.meaning book.now).acts) (view self.old) (is_ok result) (view self.new) }
         ensures lent { SameLists self.old self.new }
     {
-        // Not by `all`: a proof knows nothing of what a closure has changed, here the session.
+        // Not by `try_for_each`: a proof knows nothing of what a closure has changed, here the session.
         for act in 0..book.acts() {
-            if !self.join_outcomes(book, s, act) {
-                return false;
-            }
+            self.join_outcomes(book, s, act)?;
         }
-        true
+        Ok(())
     }
 
     // A unit that expands a place.
@@ -82,11 +82,9 @@ impl<'a, S: Copy> Session<'a, S> {
         let Some(s) = self.state(units as usize) else {
             return;
         };
-        let fits = self.expand(book, s);
-        let standing = if fits {
-            Standing::Working
-        } else {
-            Standing::Full(units + 1)
+        let standing = match self.expand(book, s) {
+            Ok(()) => Standing::Working,
+            Err(NoPlace) => Standing::Full(units + 1),
         };
         self.record.progress = Progress {
             standing,

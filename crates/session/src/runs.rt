@@ -61,6 +61,7 @@ pub fn replay<B: Book, K: Bench<B>>(
     ensures unused { drop result answers.new ≡ drop result answers.old }
     ensures promise { Promise (B.meaning book.now) }
 {
+    // The calls, and beside them as many answers as there is room for: the lists are the caller's, and nothing allocates.
     let record = begin(book, states, rows);
     let mut session = Session {
         states,
@@ -68,7 +69,7 @@ pub fn replay<B: Book, K: Bench<B>>(
         record,
     };
     let count = calls.len().min(answers.len());
-    // By places, since a proof knows no element of a list that `iter_mut` has lent.
+    // By places: the lists go side by side, and of a list that `iter_mut` lends to `zip` a proof knows no element.
     for i in 0..count {
         answers[i] = session.call(book, calls[i], benches);
     }

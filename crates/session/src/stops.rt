@@ -20,6 +20,7 @@ pub enum AskStop {
 /// Why a start was refused.
 #[derive(Clone, Copy, Debug, PartialEq, Eq)]
 pub enum StartStop {
+    // The first three are those of an ask, with names of their own, since callers match them here.
     /// The search has not ended.
     Working,
     /// The search stopped for want of places.
@@ -33,6 +34,7 @@ pub enum StartStop {
 /// Why a step was refused.
 #[derive(Clone, Copy, Debug, PartialEq, Eq)]
 pub enum StepStop {
+    // The last two are those of a bench, with names of their own, since callers match them here.
     /// There is no walk.
     NoWalk,
     /// The bench's state is not the same as the walk's.

@@ -91,7 +91,7 @@ impl<'a, S: Copy> Session<'a, S> {
         ensures lent { SameLists self.old self.new }
     {
         let units = self.record.progress.units;
-        let r = self.record.listed as u32;
+        let r = u32::from(self.record.listed);
         if r == 0 || units == u32::MAX {
             return;
         }

@@ -72,7 +72,8 @@ impl<'a, S: Copy> Session<'a, S> {
         };
         bench.carry(book, act)?;
         let Some((place, rank)) = self.ranked_place(book, bench.state(book)) else {
-            // Only another book than the session's own leads here: the walk ends.
+            // Only another book than the session's own leads here: the walk ends, and the rank told is one that no state
+            // has, since what a step answers has no case for none.
             self.record.walk = None;
             return Ok(Step::Acted {
                 act,

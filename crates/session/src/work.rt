@@ -55,7 +55,7 @@ impl<'a, S: Copy> Session<'a, S> {
         ensures moves { Moves (B.meaning book.now) (Unit {0}) (view self.old) (view self.new) }
         ensures lent { SameLists self.old self.new }
     {
-        if self.record.progress.units < self.record.listed as u32 {
+        if self.record.progress.units < u32::from(self.record.listed) {
             self.expand_place(book);
         } else {
             self.visit_place(book);

@@ -64,6 +64,7 @@ impl Parts<'_> {
 
 // What is told of a sheet.
 fn tell(rt: &impl Print, name: &str, sheet: &[u8]) -> io::Result<()> {
+    // Not by `?`: a refusal is what there is to tell.
     match Sheet::read(sheet) {
         Ok(read) => {
             let features = read.features();

@@ -41,6 +41,7 @@ pub fn check_formula(text: &[u8], letters: u8) -> Result<(), FormulaFault>
         _ => return Err(FormulaFault::TooLong),
     };
     let mut owed: u8 = 1;
+    // By `zip`, since a fault tells its place as a byte.
     for (place, sign) in (0..size).zip(text) {
         if owed == 0 {
             return Err(FormulaFault::Spare(place));

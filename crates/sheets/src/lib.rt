@@ -14,4 +14,4 @@ pub use event::{Event, Events, first_event};
 pub use fault::{FormulaFault, SectionFault, SheetFault};
 pub use formula::{arity, check_formula};
 pub use reader::{Reader, Section};
-pub use sheet::Sheet;
+pub use sheet::{ENOUGH, Sheet};

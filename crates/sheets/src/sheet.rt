@@ -10,6 +10,9 @@ use crate::fault::SheetFault;
 use crate::reader::{Header, Reader, Section};
 use crate::section::{SectionRules, start_mask};
 
+/// How many bytes of a sheet are enough to read: one more than the longest has, by which it is known to be too long.
+pub const ENOUGH: u64 = 16_385;
+
 /// A sheet: its counts and its start, and the bytes in which its goal and its acts are found. Reading gives one that is
 /// laid out by the rules; the questions have an answer on any value.
 #[derive(Clone, Copy)]
@@ -144,6 +147,7 @@ fn check_sections(header: Header) -> Result<(), SheetFault>
     requires { header_end (slice_index header.sheet.now 1) ≤ length header.sheet.now }
     ensures { result ≡ sections_check header.entry.sheet.now (section_numbers header.entry.sheet.now) }
 {
+    // By `zip`, since sections are numbered in two bytes.
     for (number, section) in (0..header.section_count()).zip(Reader::new(header.sheet)) {
         check_section(header, number, section)?;
     }

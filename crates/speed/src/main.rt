@@ -5,6 +5,7 @@
 use knowledge::KnowledgeBook;
 use planning::Book;
 use session::{BLANK, Session};
+use sheets::ENOUGH;
 use std::fs::Files;
 use std::io::{Input, Read};
 use std::time::{Clock, Instant};
@@ -14,9 +15,6 @@ use worked::{ORIGIN, chain, spot, wanted_from};
 
 // How many places a search has, and how many spots the table.
 const PLACES: usize = 4096;
-
-// One byte more than the longest sheet: enough to know that a sheet is too long.
-const ENOUGH: u64 = 16_385;
 
 // Works to the end of a search over the book, and prints its pace.
 fn time<B: Book>(

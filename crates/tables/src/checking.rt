@@ -63,6 +63,7 @@ fn levels_fit(wanted: &[u8]) -> bool
 fn first_wrong(acts: u8, rows: &[TableRow]) -> Option<usize>
     ensures { result ≡ first_wrong acts rows.now 0 (length rows.now) }
 {
+    // By places, since a row is judged beside those that stand one and eight places before it.
     (0..rows.len()).find(|i| is_wrong(acts, rows, *i))
 }
 

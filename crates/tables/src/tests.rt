@@ -18,7 +18,7 @@ fn row(zone: u8, level: u8, act: u8) -> TableRow {
     }
 }
 
-// Number and place of the fault of a table; 0 and 0 for one that is accepted.
+// Number and place of the fault of a table; 0 and 0 for one that is accepted, since no fault has the number 0.
 fn judged(acts: u8, start: Spot, wanted: &[u8], rows: &[TableRow]) -> (u8, usize) {
     MoveTable::new(acts, start, wanted, rows)
         .err()

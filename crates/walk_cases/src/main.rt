@@ -8,13 +8,11 @@ use benches::ScriptBench;
 use knowledge::KnowledgeBook;
 use planning::Book;
 use session::{Answer, BLANK, Bench, Call, replay};
+use sheets::ENOUGH;
 use std::io;
 use std::io::Read;
 use tell::tell;
 use worlds::WorldBench;
-
-// One byte more than the longest sheet: enough to know that a sheet is too long.
-const ENOUGH: u64 = 16_385;
 
 // Work to the end, a start, and three steps.
 const WHOLE_WALK: [Call<u64>; 5] = [

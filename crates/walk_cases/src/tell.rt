@@ -20,6 +20,7 @@ pub(crate) fn tell(rt: &impl Print, answer: Answer) -> io::Result<()> {
     }
 }
 
+// In words of its own: here a count of units is told, and in the report of `corners` the unit reached.
 fn tell_progress(rt: &impl Print, progress: Progress) -> io::Result<()> {
     let units = progress.units;
     match progress.standing {

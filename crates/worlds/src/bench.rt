@@ -63,6 +63,7 @@ impl<'a> Bench<KnowledgeBook<'a>> for WorldBench {
         true
     }
 
+    // The clauses `carried` and `refused` are the trait's: a method that promises more has to say them too.
     fn carry(&mut self, book: &KnowledgeBook<'a>, act: u8) -> Result<(), CarryStop>
         ensures answer { result ≡ (if applicable (content book.now) (seen self.old) act then Ok tt else Err CarryStop.NotApplicable) }
         ensures stop { carry_number result ≡ (if applicable (content book.now) (seen self.old) act then 0 else 16) }
@@ -71,10 +72,7 @@ impl<'a> Bench<KnowledgeBook<'a>> for WorldBench {
         ensures carried { Carried (book_meaning (content book.now)) (record { state = self.old.cell; ready = true }) act (carry_number result) (record { state = self.new.cell; ready = true }) }
         ensures refused { (e : CarryStop) → result ≡ Err e → self.new ≡ self.old }
     {
-        // Not by `ok_or` and `?`: a branch of its own shows that a refusal writes nothing.
-        let Some(taken) = self.chosen(book, act) else {
-            return Err(CarryStop::NotApplicable);
-        };
+        let taken = self.chosen(book, act).ok_or(CarryStop::NotApplicable)?;
         self.cell = book.class_outcome(self.cell, act, taken.class);
         self.valuation = taken.valuation;
         Ok(())

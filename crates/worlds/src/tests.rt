@@ -42,10 +42,9 @@ fn walked(valuation: u8) -> Result<[Option<(u8, u16)>; 3], Fail> {
     let mut rows = [BLANK; 4];
     let mut session = Session::new(&book, &mut states, &mut rows);
     let _ = session.work(&book, 16);
-    // Not by `?`: the rank is asked for too.
-    let Ok(2) = session.start(&book, &bench) else {
+    if session.start(&book, &bench)? != 2 {
         return Err(Fail::new("the start has another rank"));
-    };
+    }
     let mut acts = [None; 3];
     for taken in &mut acts {
         if let Ok(Step::Acted { act, rank }) = session.step(&book, &mut bench) {

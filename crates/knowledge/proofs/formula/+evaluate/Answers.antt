@@ -1,4 +1,4 @@
-use Rattle.std.proofs.Common.{cond, eqb, get_or, sym, refl, ap, ◌∙◌, ap₂, arith}
+use Rattle.std.proofs.Common.{◌≡◌, ℕ, Bool, true, false, not, cond, eqb, get_or, sym, refl, ap, ◌∙◌, ap₂, arith}
 use lib.Bits.{bit_and, bit_or, bit_xor, xor_self}
 use Rattle.std.proofs.lemmas.List.{nil_from_length}
 use Rattle.std.proofs.lemmas.Bool.{ltb-true, ltb-false}
@@ -8,6 +8,11 @@ use Rattle.knowledge.specs.Texts.{atom, alone, one, two, read}
 use Rattle.knowledge.proofs.Readings.{left_shorter, read_first, other_sign}
 use Rattle.knowledge.proofs.Judgements.{told}
 use Rattle.knowledge.proofs.formula.+evaluate.Goals as goal
+
+-- a choice by the contrary
+turned : (b : Bool) (n : ℕ) → cond (not b) n 0 ≡ cond b 0 n
+turned true n = refl
+turned false n = refl
 
 pub returns-in_default : goal.returns-in_default
 returns-in_default t c =
@@ -34,14 +39,14 @@ returns-in-33 t c =
 pub returns-in-75 : goal.returns-in-75
 returns-in-75 t c =
     let e = read_first c.args.letters 75 (one K) c.args.text.now (omega (arith, ltb-false)) c.in-75.is refl in
-    let mask = c.known.ensures ∙ ap (λ m. cond (eqb m c.args.cell) c.args.cell 0) c.evaluate-inner-in-75.ensures.mask in
+    let mask = c.whole_if.ensures ∙ ap (λ m. cond (eqb m c.args.cell) c.args.cell 0) c.evaluate-inner-in-75.ensures.mask in
     let r = told c.args.letters c.args.cell c.args.text.now _ _ _ e mask c.evaluate-inner-in-75.ensures.rest in
     record { mask = r.0; rest = r.1; whole = r.2 }
 
 pub returns-in-77 : goal.returns-in-77
 returns-in-77 t c =
     let e = read_first c.args.letters 77 (one M) c.args.text.now (omega (arith, ltb-false)) c.in-77.is refl in
-    let mask = c.possibly.ensures ∙ ap (λ m. cond (eqb m 0) 0 c.args.cell) c.evaluate-inner-in-77.ensures.mask in
+    let mask = c.whole_if-in-77.ensures ∙ turned (eqb c.evaluate-inner-in-77.result.0 0) c.args.cell ∙ ap (λ m. cond (eqb m 0) 0 c.args.cell) c.evaluate-inner-in-77.ensures.mask in
     let r = told c.args.letters c.args.cell c.args.text.now _ _ _ e mask c.evaluate-inner-in-77.ensures.rest in
     record { mask = r.0; rest = r.1; whole = r.2 }
 

@@ -11,4 +11,5 @@ pub returns-then-listed-places-2-clause-joins : goal.returns-then-listed-places-
 returns-then-listed-places-2-clause-joins g c = join_full (g.B.Book.meaning c.args.book.now) c.args.s (view c.args.self.now) (sym (ap is_some c.place.ensures) ∙ sym c.is_some.ensures ∙ c.if-is_some.false) (omega arith)
 
 pub returns-clause-joins : goal.returns-clause-joins
-returns-clause-joins g c = join_new (g.B.Book.meaning c.args.book.now) c.args.s (view c.args.self.now) c.fresh_row.result (sym (ap is_some c.place.ensures) ∙ sym c.is_some.ensures ∙ c.if-is_some.false) (search rules) c.fresh_row.ensures
+returns-clause-joins g c =
+    rw c.from-listed.ensures (join_new (g.B.Book.meaning c.args.book.now) c.args.s (view c.args.self.now) c.fresh_row.result (sym (ap is_some c.place.ensures) ∙ sym c.is_some.ensures ∙ c.if-is_some.false) (search rules) c.fresh_row.ensures)
