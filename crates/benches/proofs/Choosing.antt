@@ -1,8 +1,6 @@
 -- What a script bench makes of its next byte. Assumes nothing.
-use Rattle.std.proofs.Common.{◌≡◌, ℕ, ◌%◌, min, cond, List, [], ◌∷◌, length, take, Some, Ok, Option, sym, refl, ap, ◌∙◌, subst, ap₂, inl, inr, mod-lt, arith}
+use Rattle.std.proofs.Common.{◌≡◌, ℕ, ◌%◌, cond, List, [], ◌∷◌, length, Some, Ok, Option, sym, refl, ap, ◌∙◌, subst, ap₂, mod-lt, arith}
 use Rattle.std.proofs.lemmas.Option.{get_or_from_slice_get, none-some, slice_get-get_or}
-use Rattle.std.proofs.lemmas.List.{take_all}
-use Rattle.std.proofs.lemmas.Bool.{cases_lt}
 use Rattle.std.specs.List.{remove, slice_get}
 use Rattle.std.specs.Option.{option_map}
 use mathlib.Core.List.{Memᴰ}

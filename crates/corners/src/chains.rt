@@ -2,7 +2,7 @@
 
 use crate::spots::table;
 use crate::words::{Asked, Told};
-use session::{BLANK, Session};
+use session::{BLANK, PLACES, Session};
 use std::alloc::{AllocError, Global};
 use tables::TableRow;
 use worked::{NEVER, ORIGIN, chain, spot, wanted_from};
@@ -12,8 +12,8 @@ fn tell_chain(rt: &(impl Print + AllocGlobal), moves: usize, asked: usize) -> an
     let rows = chain(rt.alloc(), moves)?;
     let wanted = wanted_from(spot(moves));
     let book = table(&wanted, &rows)?;
-    let mut states = vec![in rt.alloc(); ORIGIN; 4096]?;
-    let mut list = vec![in rt.alloc(); BLANK; 4096]?;
+    let mut states = vec![in rt.alloc(); ORIGIN; PLACES]?;
+    let mut list = vec![in rt.alloc(); BLANK; PLACES]?;
     let mut session = Session::new(&book, &mut states, &mut list);
     let told = Told(session.work(&book, u32::MAX));
     let row = Asked(session.ask(&book, spot(asked)));

@@ -1,5 +1,5 @@
 -- The first place of a same state is the first position at which sameness holds. Assumes nothing.
-use Rattle.std.proofs.Common.{◌≡◌, ℕ, suc, ◌+◌, ◌^◌, ◌<◌, ◌≤◌, Fits, w8, cond, List, [], ◌∷◌, drop, Some, None, inl, inr, sym, refl, ap, ◌∙◌, add-one, arith, rules}
+use Rattle.std.proofs.Common.{◌≡◌, ℕ, suc, ◌+◌, ◌<◌, ◌≤◌, Fits, w8, cond, List, [], ◌∷◌, drop, Some, None, inl, inr, sym, refl, ap, ◌∙◌, add-one, rules}
 use Rattle.std.specs.Prelude.{position}
 use Rattle.std.specs.List.{position_from, slice_get}
 use Rattle.std.proofs.lemmas.Iterator.Adapters.{position_from-zero}

@@ -3,3 +3,4 @@ pub mod Plans
 pub mod Finding
 pub mod Ranks
 pub mod Theory
+pub mod Going

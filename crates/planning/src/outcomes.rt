@@ -1,7 +1,8 @@
 //! The outcomes of an act, one after another.
 
-ghost use Rattle.std.specs.Prelude.{◌≡◌, drop};
+ghost use Rattle.std.specs.Prelude.{◌≡◌};
 ghost use Rattle.std.specs.Iterator.{YieldsFirst, item_count};
+ghost use Rattle.planning.specs.Going.{outcomes_left};
 
 use crate::book::Book;
 
@@ -17,7 +18,7 @@ pub struct Outcomes<'a, B: Book> {
 impl<'a, B: Book> Outcomes<'a, B> {
     /// The outcomes of an act in a state of the book.
     pub fn new(book: &'a B, s: B::State, act: u8) -> Self
-        ensures { drop result.number ((B.meaning result.book.now).outcomes result.s result.act) ≡ (B.meaning book.now).outcomes s act }
+        ensures { outcomes_left B.meaning result ≡ (B.meaning book.now).outcomes s act }
     {
         Outcomes {
             book,
@@ -31,9 +32,9 @@ impl<'a, B: Book> Outcomes<'a, B> {
 impl<B: Book> Iterator for Outcomes<'_, B> {
     type Item = B::State;
 
-    ghost next_gives = { YieldsFirst (λ o. drop o.number ((B.meaning o.book.now).outcomes o.s o.act)) };
+    ghost next_gives = { YieldsFirst (outcomes_left B.meaning) };
 
-    ghost remaining = { item_count (λ o. drop o.number ((B.meaning o.book.now).outcomes o.s o.act)) };
+    ghost remaining = { item_count (outcomes_left B.meaning) };
 
     fn next(&mut self) -> Option<B::State> {
         let outcome = self.book.outcome(self.s, self.act, self.number)?;

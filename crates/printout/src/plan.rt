@@ -8,11 +8,8 @@ ghost use Rattle.printout.specs.Plans.{all_lines, plan_text};
 
 use lines::line;
 use planning::Book;
-use session::{BLANK, Session};
+use session::{BLANK, PLACES, Session};
 use std::alloc::{AllocError, Global};
-
-// How many places a search has.
-const PLACES: usize = 4096;
 
 /// All lines of a book's plan, searched for in 4,096 places.
 pub fn print_plan<B: Book>(heap: Global, book: &B) -> Result<Vec<u8>, AllocError>

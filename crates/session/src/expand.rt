@@ -63,7 +63,7 @@ impl<'a, S: Copy> Session<'a, S> {
         ensures joins { Joins (B.meaning book.now) (outcomes_from (B.meaning book.now) s 0 (B.meaning book.now).acts) (view self.old) (is_ok result) (view self.new) }
         ensures lent { SameLists self.old self.new }
     {
-        // Not by `try_for_each`: a proof knows nothing of what a closure has changed, here the session.
+        // Not by `try_for_each`: its closure would change the session, and its proof would read no plainer.
         for act in 0..book.acts() {
             self.join_outcomes(book, s, act)?;
         }
@@ -82,6 +82,7 @@ impl<'a, S: Copy> Session<'a, S> {
         let Some(s) = self.state(units as usize) else {
             return;
         };
+        // Both answers say where the search stands.
         let standing = match self.expand(book, s) {
             Ok(()) => Standing::Working,
             Err(NoPlace) => Standing::Full(units + 1),

@@ -17,7 +17,7 @@ mod work;
 
 pub use bench::Bench;
 pub use calls::{Answer, Call, Step};
-pub use lists::Session;
+pub use lists::{PLACES, Session};
 pub use plain::{BLANK, Progress, Record, Row, Standing, Walk};
 pub use runs::replay;
 pub use stops::{AskStop, CarryStop, StartStop, StepStop};

@@ -8,6 +8,9 @@ ghost use Rattle.session.specs.Views.{places, row_told, view};
 use crate::plain::{Progress, Record, Row};
 use planning::{Book, find};
 
+/// The most places that a session uses.
+pub const PLACES: usize = 4096;
+
 /// A search over a book, laid over two lists of the caller, one of states and one of rows, which it holds for as long as
 /// it stands. Place i of the rows tells of the state at place i. It uses the first N places of each, N being the least of
 /// the two lengths and 4,096, and never writes a place that is not listed.
@@ -56,7 +59,7 @@ impl<'a, S: Copy> Session<'a, S> {
     pub(crate) fn places(&self) -> usize
         ensures { result ≡ places (view self.now) }
     {
-        self.states.len().min(self.rows.len()).min(4096)
+        self.states.len().min(self.rows.len()).min(PLACES)
     }
 
     // The first listed place whose state is the same as s.

@@ -26,6 +26,7 @@ impl<'a, S: Copy> Session<'a, S> {
         match call {
             Call::Work(quota) => Answer::Worked(self.work(book, quota)),
             Call::Ask(s) => Answer::Asked(self.ask(book, s)),
+            // Not by `map_or`: its closure would change the session, and its proof would read no plainer.
             Call::Start(k) => match benches.get(k) {
                 Some(bench) => Answer::Started(self.start(book, bench)),
                 None => Answer::NoBench,
@@ -69,7 +70,7 @@ pub fn replay<B: Book, K: Bench<B>>(
         record,
     };
     let count = calls.len().min(answers.len());
-    // By places: the lists go side by side, and of a list that `iter_mut` lends to `zip` a proof knows no element.
+    // By places, since answers are written by place: of a list that `iter_mut` lends to `zip` a proof knows no element.
     for i in 0..count {
         answers[i] = session.call(book, calls[i], benches);
     }

@@ -79,6 +79,7 @@ impl From<CarryStop> for StepStop {
     }
 }
 
+// Two impls of one shape, since their words differ case by case.
 impl fmt::Display for StartStop {
     ghost output = { λ e. Some (start_text e) };
 

@@ -68,10 +68,9 @@ impl<'a, S: Copy> Session<'a, S> {
     fn verdict(&self) -> Standing
         ensures { result ≡ standing_by (slice_get self.now.rows.now 0) }
     {
-        match self.row(0).and_then(|row| row.rank) {
-            Some(depth) => Standing::Found(depth),
-            None => Standing::NoPlan,
-        }
+        self.row(0)
+            .and_then(|row| row.rank)
+            .map_or(Standing::NoPlan, Standing::Found)
     }
 
     // Where the search stands after a visit in sweep j: the first sweep that ranks nothing is the last.

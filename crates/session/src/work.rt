@@ -66,7 +66,7 @@ impl<'a, S: Copy> Session<'a, S> {
     fn working(&self) -> bool
         ensures { result ≡ works_at self.now.«record».progress.standing }
     {
-        matches!(self.record.progress.standing, Standing::Working)
+        self.record.progress.standing == Standing::Working
     }
 
     /// Works for at most `quota` units, fewer if the search is decided before, and answers where the search then stands

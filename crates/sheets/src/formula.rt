@@ -36,6 +36,7 @@ pub fn check_formula(text: &[u8], letters: u8) -> Result<(), FormulaFault>
     ensures grammar { letters ≤ 26 → Accepts letters text.now result }
     ensures place { letters ≤ 26 → ToldFirst letters text.now result }
 {
+    // A match with a guard, since a size that fits a byte may be too long all the same.
     let size = match u8::try_from(text.len()) {
         Ok(size) if size <= 200 => size,
         _ => return Err(FormulaFault::TooLong),

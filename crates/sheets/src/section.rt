@@ -97,6 +97,7 @@ impl SectionRules {
     fn check_act(self, bytes: &[u8]) -> Result<(), SectionFault>
         ensures { result ≡ act_check self.features bytes.now }
     {
+        // Counted along, since an event does not know where it begins.
         let mut at: u16 = 0;
         for event in Events::new(bytes).take(16) {
             self.check_event(event, at)?;

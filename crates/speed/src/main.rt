@@ -4,7 +4,7 @@
 
 use knowledge::KnowledgeBook;
 use planning::Book;
-use session::{BLANK, Session};
+use session::{BLANK, PLACES, Session};
 use sheets::ENOUGH;
 use std::fs::Files;
 use std::io::{Input, Read};
@@ -12,9 +12,6 @@ use std::time::{Clock, Instant};
 use std::{env, fs};
 use tables::MoveTable;
 use worked::{ORIGIN, chain, spot, wanted_from};
-
-// How many places a search has, and how many spots the table.
-const PLACES: usize = 4096;
 
 // Works to the end of a search over the book, and prints its pace.
 fn time<B: Book>(

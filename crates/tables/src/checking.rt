@@ -46,6 +46,7 @@ pub(crate) fn check(
     if rows.len() > MOST_ROWS {
         return Err(TableFault::Rows);
     }
+    // Both sides answer, so a match reads plainer than `map_or`.
     match first_wrong(acts, rows) {
         Some(i) => Err(TableFault::Row(i)),
         None => Ok(()),

@@ -78,9 +78,9 @@ fn a_table_answers_as_a_book(rt: HostRuntime) -> Result<(), Fail> {
 
 #[test]
 fn a_fault_in_words(rt: HostRuntime) -> Result<(), Fail> {
-    let Err(fault) = MoveTable::new(2, spot(0, 0), &LEVELS, &[row(0, 0, 0), row(0, 64, 0)]) else {
-        return Err(Fail::new("a row with a level over 63 is accepted"));
-    };
+    let fault = MoveTable::new(2, spot(0, 0), &LEVELS, &[row(0, 0, 0), row(0, 64, 0)])
+        .err()
+        .ok_or("a row with a level over 63 is accepted")?;
     assert_eq!(rt; fault, TableFault::Row(1));
     let text = fault.to_string(rt.alloc())?;
     assert_eq!(rt; text.as_str(), "stop 8 at place 1");

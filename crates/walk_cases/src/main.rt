@@ -66,6 +66,7 @@ fn walk_world(
     choice: u8,
 ) -> io::Result<()> {
     println!(rt; "valuation {valuation}, byte {choice}")?;
+    // Not by `?`: a refusal is what there is to tell.
     match WorldBench::new(book, valuation, choice) {
         Ok(bench) => walk(rt, book, &mut [bench]),
         Err(stop) => println!(rt; "{stop}\n"),

@@ -1,4 +1,5 @@
-use Rattle.std.proofs.Common.{◌≡◌, [], ◌∷◌, drop, decimal, None, sym, ap, ◌∙◌, rules}
+use Rattle.std.proofs.Common.{◌≡◌, [], ◌∷◌, decimal, None, sym, ap, ◌∙◌, rules}
+use Rattle.planning.specs.Going.{outcomes_left}
 use Rattle.planning.specs.Finding.{place_of}
 use Rattle.lines.specs.Texts.{text}
 use Rattle.lines.specs.Words.{number_word, outcome_words}
@@ -12,7 +13,7 @@ loop-o-init g c =
     let m = g.B.Book.meaning in
     let t = text c.next_or_blank-2.new.self in
     let ts = c.args.states.now in
-    ap (λ o. ahead t (place_names (m c.args.book.now) ts (drop o.number ((m o.book.now).outcomes o.s o.act)))) c.into_iter-o-iterator.ensures.into_iter_gives
+    ap (λ o. ahead t (place_names (m c.args.book.now) ts (outcomes_left m o))) c.into_iter-o-iterator.ensures.into_iter_gives
     ∙ ap (λ os. ahead t (place_names (m c.args.book.now) ts os)) c.new-o-items.ensures
 
 pub loop-o-preserved : goal.loop-o-preserved
@@ -22,7 +23,7 @@ loop-o-preserved g c =
     let ts = c.args.states.now in
     let left = c.next.new.self in
     next_word t (text c.next_or_blank-in-loop-o.new.self) (number_word (place_of (m c.args.book.now) ts c.in-Some-o.o))
-    (place_names (m c.args.book.now) ts (drop left.number ((m left.book.now).outcomes left.s left.act)))
+    (place_names (m c.args.book.now) ts (outcomes_left m left))
     (c.next_or_blank-in-loop-o.ensures ∙ ap (λ p. ahead t (number_word p ∷ [])) c.find.ensures)
     ∙ ap (λ os. ahead t (place_names (m c.args.book.now) ts os)) (sym c.in-Some-o.ensures.steps) ∙ c.loop-o.invariant
 

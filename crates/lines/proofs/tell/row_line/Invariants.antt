@@ -1,4 +1,5 @@
-use Rattle.std.proofs.Common.{◌≡◌, drop, Some}
+use Rattle.std.proofs.Common.{◌≡◌, Some}
+use Rattle.planning.specs.Going.{outcomes_left}
 use Rattle.lines.specs.Texts.{text}
 use Rattle.lines.specs.Words.{outcome_words}
 use Rattle.lines.proofs.Wording.{ahead, place_names}
@@ -8,4 +9,4 @@ abbrev pub invariant-loop-o : goal.invariant-loop-o
 invariant-loop-o g l =
     let m = g.B.Book.meaning in
     let o = l.o-iterator in
-    ahead (text l.text) (place_names (m l.book) l.states (drop o.number ((m o.book.now).outcomes o.s o.act))) ≡ ahead (text l.initial.text) (outcome_words (m l.book) l.states l.fn.s (Some l.act))
+    ahead (text l.text) (place_names (m l.book) l.states (outcomes_left m o)) ≡ ahead (text l.initial.text) (outcome_words (m l.book) l.states l.fn.s (Some l.act))

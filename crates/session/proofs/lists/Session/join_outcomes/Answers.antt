@@ -1,4 +1,5 @@
-use Rattle.std.proofs.Common.{◌≡◌, true, false, is_ok, [], ◌∷◌, ◌++◌, drop, ap, sym, ◌∙◌, rules}
+use Rattle.std.proofs.Common.{◌≡◌, true, false, is_ok, [], ◌∷◌, ◌++◌, ap, sym, ◌∙◌, rules}
+use Rattle.planning.specs.Going.{outcomes_left}
 use Rattle.session.specs.Views.{view}
 use Rattle.session.proofs.Chains.{all_joined, joins_on, left_on, none_joined, outcome_stopped}
 use Rattle.session.proofs.Lending.{lists_on, lists_same}
@@ -6,7 +7,7 @@ use Rattle.session.proofs.lists.Session.join_outcomes.Goals as goal
 
 pub loop-o-init : goal.loop-o-init
 loop-o-init g c =
-    let left = ap (λ o. drop o.number ((g.B.Book.meaning o.book.now).outcomes o.s o.act)) c.into_iter-o-iterator.ensures.into_iter_gives ∙ c.new-o-items.ensures in
+    let left = ap (outcomes_left g.B.Book.meaning) c.into_iter-o-iterator.ensures.into_iter_gives ∙ c.new-o-items.ensures in
     record { lent = lists_same _; joins = none_joined (g.B.Book.meaning c.args.book.now) (view c.args.self.now); left = left }
 
 pub returns-in_err-join-clause-joins : goal.returns-in_err-join-clause-joins
