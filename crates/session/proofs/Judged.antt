@@ -15,14 +15,13 @@ module _ {S : Type 0} (p : S → Bool) where
   all-every [] = refl
   all-every (x ∷ xs) = ap (λ b. p x && b) (all-every xs)
 
-some_of-first : {S : Type 0} (os : List S) → is_some (slice_get os 0) ≡ true → some_of os ≡ true
-some_of-first [] e = e
-some_of-first (x ∷ xs) e = refl
-
 module _ {S : Type 0} (m : Meaning S) (p : S → Bool) (s : S) (a : ℕ) where
-  -- where there is an outcome, the test of all of them says whether the act brings that about
-  pub all-brings : is_some (slice_get (m.outcomes s a) 0) ≡ true → list_all p (m.outcomes s a) ≡ brings m p s a
-  all-brings e = all-every p (m.outcomes s a) ∙ sym (ap (λ b. b && every p (m.outcomes s a)) (some_of-first (m.outcomes s a) e))
+  -- an act without an outcome brings nothing about; of one whose first outcome passes, the test of the others decides
+  pub no-brings : m.outcomes s a ≡ [] → false ≡ brings m p s a
+  no-brings e = sym (ap (λ os. some_of os && every p os) e)
+
+  pub first-brings : (o : S) (os : List S) → m.outcomes s a ≡ o ∷ os → p o ≡ true → list_all p os ≡ brings m p s a
+  first-brings o os e t = all-every p os ∙ sym (ap (λ b. b && every p os) t) ∙ sym (ap (λ xs. some_of xs && every p xs) e)
 
 -- the lowest act that passes, among n from a on
 find-acts : (f : ℕ → Bool) (a n : ℕ) → find f (range_with_len a n) ≡ first_act f a n

@@ -33,7 +33,10 @@ impl<'a, S: Copy> Session<'a, S> {
         ensures { result ≡ brings (B.meaning book.now) (told (B.meaning book.now) (view self.now) j) s act }
     {
         let mut outcomes = Outcomes::new(book, s, act);
-        book.outcome(s, act, 0).is_some() && outcomes.all(|o| self.below(book, o, j))
+        let Some(first) = outcomes.next() else {
+            return false;
+        };
+        self.below(book, first, j) && outcomes.all(|o| self.below(book, o, j))
     }
 
     // The lowest act that brings s to ranks below j.
