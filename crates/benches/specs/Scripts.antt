@@ -1,5 +1,5 @@
 -- Script benches by what they hold, and how they choose. Assumes nothing.
-use Rattle.std.specs.Prelude.{ℕ, ◌%◌, List, [], ◌∷◌, length, Ok, Err, Result, slice_index_or}
+use Rattle.std.specs.Prelude.{ℕ, ◌%◌, List, [], ◌∷◌, length, drop, Ok, Err, Result, slice_index_or}
 use Rattle.planning.specs.Meaning.{Meaning}
 use Rattle.planning.specs.Ranks.{some_of}
 use Rattle.session.specs.Walks.{Post}
@@ -13,7 +13,7 @@ pub record Script (S : Type 0) : Type 0 where
 
 -- a script bench by what it holds
 abbrev pub script : {S : Type 0} → ScriptBench S → Script S
-script k = record { state = k.state; bytes = k.choices.items }
+script k = record { state = k.state; bytes = drop k.used k.choices.items }
 
 -- its meaning: it is ready while bytes remain
 abbrev pub post : {S : Type 0} → Script S → Post S

@@ -1,6 +1,7 @@
 //! Making a script bench, and carrying acts out on it.
 
-ghost use Rattle.std.specs.Prelude.{◌≡◌, take, Err};
+ghost use Rattle.std.specs.Prelude.{◌≡◌, ◌<◌, length, drop, take, Err, IfSome};
+ghost use Rattle.std.specs.List.{slice_get};
 ghost use Rattle.session.specs.Stops.{carry_number};
 ghost use Rattle.session.specs.Walks.{Carried};
 ghost use Rattle.session.specs.declared.stops.CarryStop.{CarryStop};
@@ -23,7 +24,27 @@ impl<S: Copy> ScriptBench<S> {
         ScriptBench {
             state: book.start(),
             choices: held,
+            used: 0,
         }
+    }
+
+    // How many bytes of the script remain.
+    #[tactic(auto, using(crate::proofs::Choosing::left_long))]
+    fn left(&self) -> usize
+        ensures { result ≡ length (drop self.now.used self.now.choices.items) }
+    {
+        self.choices.len().saturating_sub(self.used)
+    }
+
+    // The next byte of the script, if one remains.
+    fn choice(&self) -> Option<u8>
+        ensures next { result ≡ slice_get self.now.choices.items self.now.used }
+        ensures room { IfSome result (λ _. self.now.used < 64) }
+    {
+        if self.used >= self.choices.len() {
+            return None;
+        }
+        Some(self.choices[self.used])
     }
 }
 
@@ -40,7 +61,7 @@ impl<S: Copy, B: Book<State = S>> Bench<B> for ScriptBench<S> {
     }
 
     fn ready(&self, _book: &B) -> bool {
-        !self.choices.is_empty()
+        self.left() > 0
     }
 
     // The clauses `carried` and `refused` are the trait's: a method that promises more has to say them too.
@@ -50,16 +71,16 @@ impl<S: Copy, B: Book<State = S>> Bench<B> for ScriptBench<S> {
         ensures answer { result ≡ carry_answer (B.meaning book.now) (script self.old) act }
         ensures leaves { script self.new ≡ carry_leaves (B.meaning book.now) (script self.old) act }
     {
-        let choice = *self.choices.first().ok_or(CarryStop::NotReady)?;
+        let choice = self.choice().ok_or(CarryStop::NotReady)?;
         let count = Outcomes::new(book, self.state, act).count();
         if count == 0 {
             return Err(CarryStop::NotApplicable);
         }
-        let number = usize::from(choice) % count;
-        self.state = Outcomes::new(book, self.state, act)
-            .nth(number)
+        let number = (usize::from(choice) % count) as u8;
+        self.state = book
+            .outcome(self.state, act, number)
             .ok_or(CarryStop::NotApplicable)?;
-        self.choices.remove(0);
+        self.used += 1;
         Ok(())
     }
 }

@@ -10,6 +10,7 @@ pub(crate) const CHOICES: usize = 64;
 #[derive(Drop)]
 pub struct ScriptBench<S> {
     pub(crate) state: S,
-    // The bytes that remain, the next one first.
+    // The whole script, and how many of its bytes are used: a use moves none of the others.
     pub(crate) choices: ArrayVec<u8, CHOICES>,
+    pub(crate) used: usize,
 }

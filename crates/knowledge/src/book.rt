@@ -119,6 +119,7 @@ impl Book for KnowledgeBook<'_> {
         self.sheet.start()
     }
 
+    #[tactic(auto, using(crate::proofs::Contents::count_is))]
     fn acts(&self) -> u8 {
         self.sheet.acts().min(16)
     }

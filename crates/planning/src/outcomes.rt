@@ -6,6 +6,9 @@ ghost use Rattle.planning.specs.Going.{outcomes_left};
 
 use crate::book::Book;
 
+// The most outcomes that an act has in a state: past them the book need not be asked.
+const MOST: u8 = 8;
+
 /// The outcomes that an act has in a state, in their order.
 #[derive(Drop)]
 pub struct Outcomes<'a, B: Book> {
@@ -37,6 +40,9 @@ impl<B: Book> Iterator for Outcomes<'_, B> {
     ghost remaining = { item_count (outcomes_left B.meaning) };
 
     fn next(&mut self) -> Option<B::State> {
+        if self.number >= MOST {
+            return None;
+        }
         let outcome = self.book.outcome(self.s, self.act, self.number)?;
         self.number += 1;
         Some(outcome)

@@ -2,6 +2,7 @@
 
 #![tactic(auto)]
 
+use anyhow::anyhow;
 use knowledge::KnowledgeBook;
 use planning::Book;
 use session::{BLANK, PLACES, Session};
@@ -43,7 +44,8 @@ fn time_table(rt: &(impl Clock + Print + AllocGlobal)) -> anyhow::Result<()> {
 fn time_sheet(rt: &(impl Input + Clock + Print + AllocGlobal)) -> anyhow::Result<()> {
     let mut sheet = Vec::new(rt.alloc());
     rt.reader().take(ENOUGH).read_to_end(&mut sheet)?;
-    time(rt, "knowledge book", &KnowledgeBook::read(&sheet)?)
+    let book = KnowledgeBook::read(&sheet).map_err(|_| anyhow!("the sheet is refused"))?;
+    time(rt, "knowledge book", &book)
 }
 
 // The machine, as the system names its processor.

@@ -4,6 +4,7 @@
 
 mod tell;
 
+use anyhow::anyhow;
 use benches::ScriptBench;
 use knowledge::KnowledgeBook;
 use planning::Book;
@@ -86,7 +87,7 @@ fn walk_worlds(rt: &impl Print, book: &KnowledgeBook<'_>) -> io::Result<()> {
 fn main(rt: HostRuntime) -> anyhow::Result<()> {
     let mut sheet = Vec::new(rt.alloc());
     rt.stdin().take(ENOUGH).read_to_end(&mut sheet)?;
-    let book = KnowledgeBook::read(&sheet)?;
+    let book = KnowledgeBook::read(&sheet).map_err(|_| anyhow!("the sheet is refused"))?;
     walk_scripts(&rt, &book)?;
     walk_worlds(&rt, &book)?;
     Ok(())

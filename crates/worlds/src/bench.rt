@@ -72,7 +72,10 @@ impl<'a> Bench<KnowledgeBook<'a>> for WorldBench {
         ensures carried { Carried (book_meaning (content book.now)) (record { state = self.old.cell; ready = true }) act (carry_number result) (record { state = self.new.cell; ready = true }) }
         ensures refused { (e : CarryStop) → result ≡ Err e → self.new ≡ self.old }
     {
-        let taken = self.chosen(book, act).ok_or(CarryStop::NotApplicable)?;
+        // A branch, and not `ok_or` with `?`: a must-fail edit alters the bench in it, and is to be refused for that.
+        let Some(taken) = self.chosen(book, act) else {
+            return Err(CarryStop::NotApplicable);
+        };
         self.cell = book.class_outcome(self.cell, act, taken.class);
         self.valuation = taken.valuation;
         Ok(())
