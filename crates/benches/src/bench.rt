@@ -76,6 +76,7 @@ impl<S: Copy, B: Book<State = S>> Bench<B> for ScriptBench<S> {
         if count == 0 {
             return Err(CarryStop::NotApplicable);
         }
+        // By its number, since going through the outcomes anew would ask the book for each one before it too.
         let number = (usize::from(choice) % count) as u8;
         self.state = book
             .outcome(self.state, act, number)
