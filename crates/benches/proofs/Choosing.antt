@@ -1,5 +1,5 @@
 -- What a script bench makes of its next byte. Assumes nothing.
-use Rattle.std.proofs.Common.{◌≡◌, ℕ, ◌+◌, ◌-◌, ◌%◌, cond, ltb, List, [], ◌∷◌, length, drop, Some, None, Ok, Err, sym, refl, ap, ◌∙◌, subst, ap₂, mod-lt, arith}
+use Rattle.std.proofs.Common.{◌≡◌, ℕ, ◌+◌, ◌-◌, ◌%◌, cond, ltb, List, [], ◌∷◌, length, drop, Some, Ok, Err, sym, refl, ap, ◌∙◌, subst, ap₂, mod-lt, arith}
 use Rattle.std.proofs.lemmas.List.{drop_more, length-drop}
 use Rattle.std.proofs.lemmas.Option.{get_or_from_slice_get, none-some, slice_get-get_or, slice_get_within}
 use Rattle.std.proofs.lemmas.Bool.{lt-ltb}
@@ -72,16 +72,6 @@ module _ {S : Type 0} (m : Meaning S) (s : S) (a : ℕ) (xs : List ℕ) where
 
     pub bare_answer : Err CarryStop.NotApplicable ≡ answer_by xs os
     bare_answer = sym (ap₂ answer_by e none)
-
-    pub bare_leaves : record { state = s; bytes = xs } ≡ leaves_by s xs os
-    bare_leaves = ap (λ zs. record { state = s; bytes = zs }) e ∙ sym (ap₂ (leaves_by s) e none)
-
--- of some outcomes, one has the number of any byte modulo how many they are
-pub never_past : {S : Type 0} (os : List S) (x n : ℕ) → n ≡ length os → (n ≡ 0 → ⊥) → slice_get os (x % n) ≡ None → ⊥
-never_past [] x n e some h = some e
-never_past (o ∷ os) x n e some h =
-    let at : slice_get (o ∷ os) (x % length (o ∷ os)) ≡ None = ap (λ k. slice_get (o ∷ os) (x % k)) (sym e) ∙ h in
-    none-some _ (sym at ∙ slice_get-get_or (o ∷ os) (x % length (o ∷ os)) o (mod-lt x (omega arith)))
 
 -- an act that has an outcome is carried while bytes remain
 pub took_answer : {S : Type 0} (xs ys : List ℕ) (os : List S) (x i : ℕ) (o : S) → xs ≡ x ∷ ys → slice_get os i ≡ Some o → Ok tt ≡ answer_by xs os

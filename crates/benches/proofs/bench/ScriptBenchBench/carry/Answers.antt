@@ -8,7 +8,7 @@ use Rattle.session.specs.Stops.{carry_number}
 use Rattle.session.specs.Walks.{Carried}
 use Rattle.session.specs.declared.stops.CarryStop.{CarryStop}
 use Rattle.benches.specs.Scripts.{Script, post, script}
-use Rattle.benches.proofs.Choosing.{bare_answer, bare_carried, bare_leaves, carried, next_byte, spent_answer, spent_carried, spent_leaves, took_answer, took_leaves}
+use Rattle.benches.proofs.Choosing.{bare_answer, bare_carried, carried, next_byte, spent_answer, spent_carried, spent_leaves, took_answer, took_leaves}
 use Rattle.benches.proofs.bench.ScriptBenchBench.carry.Goals as goal
 
 pub returns-in_err-choice-clause-carried : goal.returns-in_err-choice-clause-carried
@@ -49,15 +49,6 @@ returns-then-count-eq0-clause-answer g c =
     let next : slice_get c.args.self.now.choices.items c.args.self.now.used ≡ Some c.in_ok-choice.choice = search rules in
     let count : c.count-count.result ≡ length os = count_from_yields_List c.new.result c.count-count.result c.count-count.ensures.ran (YieldsList-from_first (λ x. x) (outcomes_left g.B.Book.meaning) os c.new.ensures) in
     bare_answer m k.state c.args.act k.bytes c.in_ok-choice.choice _ (next_byte c.args.self.now.choices.items c.args.self.now.used c.in_ok-choice.choice next) (nil_from_length os (sym count ∙ c.if-count-eq0.true))
-
-pub returns-then-count-eq0-clause-leaves : goal.returns-then-count-eq0-clause-leaves
-returns-then-count-eq0-clause-leaves g c =
-    let m = g.B.Book.meaning c.args.book.now in
-    let k = script c.args.self.now in
-    let os = m.outcomes k.state c.args.act in
-    let next : slice_get c.args.self.now.choices.items c.args.self.now.used ≡ Some c.in_ok-choice.choice = search rules in
-    let count : c.count-count.result ≡ length os = count_from_yields_List c.new.result c.count-count.result c.count-count.ensures.ran (YieldsList-from_first (λ x. x) (outcomes_left g.B.Book.meaning) os c.new.ensures) in
-    bare_leaves m k.state c.args.act k.bytes c.in_ok-choice.choice _ (next_byte c.args.self.now.choices.items c.args.self.now.used c.in_ok-choice.choice next) (nil_from_length os (sym count ∙ c.if-count-eq0.true))
 
 pub returns-clause-answer : goal.returns-clause-answer
 returns-clause-answer g c =
